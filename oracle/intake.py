@@ -1,4 +1,4 @@
-"""Which texts an account may hand in, what they ask for, and in which order a round takes them: written from the rules alone.
+"""Which submissions an account may hand in, what they ask for, and in which order a round takes them: written from the rules alone.
 
 python3 intake.py ACCOUNT < text       prints the text's verdict
 
@@ -41,7 +41,7 @@ class Refusal(NamedTuple):
 
 
 def examine(own: str, text: bytes) -> Union[Noted, Refusal]:
-    """What is noted of the text, where it is admitted."""
+    """What is noted of the submission, where it is admitted."""
     noted = Noted()
     deck = Deck(noted)
     deck.section = deck.stream
@@ -63,7 +63,7 @@ def examine(own: str, text: bytes) -> Union[Noted, Refusal]:
 
 
 def tally(text: bytes, noted: Noted) -> Dict[str, int]:
-    """Of a text that is admitted. Its lines count as they stand in a round: each ends with LF alone."""
+    """Of a submission that is admitted. Its lines count as they stand in a round: each ends with LF alone."""
     statements = [job.statements for job in noted.loaded]
     work = [job.statements * job.steps for job in noted.loaded]
     return {'jobs': len(noted.loaded), 'statements': sum(statements), 'largest': max(work, default=0), 'work': sum(work),
@@ -78,7 +78,7 @@ def verdict(own: str, text: bytes) -> str:
 
 
 def first_broken(limits: Mapping[str, int], owned: Tuple[int, int], tallies: Sequence[Mapping[str, int]]) -> Optional[str]:
-    """Which limit the texts of an account break first, or None; owned are, when the round starts, its data sets and their bytes."""
+    """Which limit the submissions of an account break first, or None; owned are, when the round starts, its data sets and their bytes."""
     total = {name: sum(one[name] for one in tallies) for name in ('bytes', 'jobs', 'statements', 'work', 'creates')}
     there = {'texts': len(tallies), 'bytes': total['bytes'], 'jobs': total['jobs'], 'statements': total['statements'],
              'largest': max((one['largest'] for one in tallies), default=0), 'work': total['work'],
@@ -87,7 +87,7 @@ def first_broken(limits: Mapping[str, int], owned: Tuple[int, int], tallies: Seq
 
 
 def in_turns(number: int, queues: List[List[One]]) -> List[One]:
-    """The first text of each account, then the second of each, and so on. Each round begins with the next account."""
+    """The first submission of each account, then the second of each, and so on. Each round begins with the next account."""
     first = number % len(queues) if queues else 0
     rotated = queues[first:] + queues[:first]
     return [queue[k] for k in range(max(map(len, queues), default=0)) for queue in rotated if k < len(queue)]

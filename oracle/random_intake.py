@@ -168,7 +168,7 @@ def admitted(r: Random, own: str) -> str:
 
 
 def alone(program: str, slots: int, catalogue: str, text: str) -> Tuple[str, str]:
-    """What the text prints as the only one of a deck, and the catalogue that it leaves."""
+    """What the submission prints as the only one of a deck, and the catalogue that it leaves."""
     deck = TABLE + catalogue + '$STREAM\n' + ended(text) + '$STOP\n'
     done = subprocess.run([program, '--slots', str(slots)], input=deck.encode(), capture_output=True, timeout=60, check=True)
     output = done.stdout.decode()
@@ -185,7 +185,7 @@ class Round(NamedTuple):
     case: str
     texts: int
     jobs: int
-    prints_the_same: bool       # as one deck of all texts
+    prints_the_same: bool       # as one deck of all submissions
 
 
 def round_of(program: str, seed: int) -> Round:
@@ -208,7 +208,7 @@ def round_of(program: str, seed: int) -> Round:
 
 
 def order_of(seed: int) -> str:
-    """The texts of some accounts, and in which order a round takes them."""
+    """The submissions of some accounts, and in which order a round takes them."""
     r = Random(seed)
     queues = [['%s%d' % (name, k) for k in range(r.choice([0, 1, 2, 2, 5]))] for name in 'abcdef'[:r.randint(0, 6)]]
     number = r.choice([0, 1, 2, 3, 7, 12, 2**64 - 1])
@@ -218,7 +218,7 @@ def order_of(seed: int) -> str:
 
 
 def limits_of(seed: int) -> str:
-    """The limits of an account, most of them about what its texts come to; what it owns; and the tallies of its texts."""
+    """The limits of an account, most of them about what its submissions come to; what it owns; and the tallies of its submissions."""
     r = Random(seed)
     tallies = [[r.choice([0, 1, 2, 10**6, 10**14]) for _ in TALLY] for _ in range(r.randint(0, 5))]
     owned = r.choice([0, 3, 1000]), r.choice([0, 60, 10**9])
@@ -244,13 +244,13 @@ def write_rounds(count: int, seed: int, path: str, program: str) -> bool:
     return bool(different) or not count
 
 
-# ---- the same texts in decks ---------------------------------------------------------------------------------------
+# ---- the same submissions in decks ---------------------------------------------------------------------------------------
 
 FRONT = TABLE + '$CATALOGUE 2\n$STREAM\n'
 
 
 def asked_of(text: str, said: str) -> Tuple[str, Optional[Tuple[int, str]]]:
-    """(a stream that shows why the text is admitted or refused so, the line and the code for which its deck is refused, or None)"""
+    """(a stream that shows why the submission is admitted or refused so, the line and the code for which its deck is refused, or None)"""
     if said.startswith('ADMITTED'):
         return ended(text) + '$STOP', None
     _, line, why = said.split(' ', 2)

@@ -1,4 +1,4 @@
-"""A round of twelve texts that breaks off, at each call on files or at some moment, and is made again.
+"""A round of twelve submissions that breaks off, at each call on files or at some moment, and is made again.
 
 python3 site_crashes.py calls SITE SNOMON          (needs a C compiler)
 python3 site_crashes.py moments COUNT SEED SITE SNOMON
@@ -7,8 +7,8 @@ python3 site_crashes.py growths COUNT SITE SNOMON
 Each n-th call on files fails, and all behind it; and each ends the run as a power cut does. `moments` kills the run at random
 moments. While the output of the round does not stand, nothing was shown to anyone. One more run then comes to the files that
 stand where nothing broke off, byte for byte: no text is lost, and none is run twice. `growths` refuses a growth of memory, so many of
-them in even steps: the run ends for want of memory, or a text is put off and run alone, or a job ends early, or nothing differs; behind
-one more run each text has one answer, and each round's deck gives its output and its audit again."""
+them in even steps: the run ends for want of memory, or a submission is deferred and run alone, or a job ends early, or nothing differs; behind
+one more run each submission has one answer, and each round's deck gives its output and its audit again."""
 from __future__ import annotations
 
 import concurrent.futures
@@ -31,7 +31,7 @@ LIMITS = dict.fromkeys(site_rounds.NAMES, 10**15)
 
 
 def dropped() -> List[Tuple[str, str]]:
-    """(account, text) of twelve texts: eight that are run, and each adds to one data set; a list; three that are refused."""
+    """(account, text) of twelve submissions: eight that are run, and each adds to one data set; a list; three that are refused."""
     texts = [(account, ADDS % (account, account + str(k), account, account)) for account in sorted(random_site.users_of()) for k in (1, 2)]
     return texts + [('anna', '$SETACL anna LOG\nuser::rwx\ngroup::---\nother::rw-\n$ENDACL\n'), ('eve', '$LIST hugo LOG\n'), ('hugo', '$STOP\n'),
                     ('lisa', '$JOB lisa\nEND\n')]
@@ -123,7 +123,7 @@ class Crashes:
         again = self.run(folder)
         wrong = None if again.returncode in (0, 1) else 'status %d: %s' % (again.returncode, again.stderr.decode()[-200:])
         if random_site.differing(self.wanted, random_site.tree(folder)) and kind == 'not seen':
-            kind = 'put off, or a job ended'
+            kind = 'deferred, or a job ended'
         return True, kind, wrong or self.is_whole(folder, snomon)
 
     def is_whole(self, folder: str, snomon: str) -> Optional[str]:

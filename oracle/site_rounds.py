@@ -3,7 +3,7 @@
 python3 site_rounds.py run DIR SNOMON     makes the rounds that `snomon-site run DIR` has to make, and leaves the same files
 
 What may be handed in, the limits and the order are asked of intake.py. The printout of a text is what SNOMON prints of it
-alone, over the catalogue as the text before it left it, and so is its part of the audit. Nothing here is locked or waits for the disk."""
+alone, over the catalogue as the submission before it left it, and so is its part of the audit. Nothing here is locked or waits for the disk."""
 from __future__ import annotations
 
 import hashlib
@@ -47,7 +47,7 @@ def told_lines(path: str) -> List[List[str]]:
 
 
 class Site:
-    """A folder, and what its keeper wrote into it."""
+    """A folder, and what its operator wrote into it."""
 
     def __init__(self, folder: str, snomon: str) -> None:
         self.folder, self.snomon = folder, snomon
@@ -56,7 +56,7 @@ class Site:
         self.users = {account: int(uid) for uid, account in told_lines(self.path('users'))}
         said = told_lines(self.path('limits'))
         self.limits = {line[0]: int(line[1]) for line in said if len(line) == 2}
-        self.as_root, self.keeper = os.geteuid() == 0, os.stat(folder).st_uid
+        self.as_root, self.operator = os.geteuid() == 0, os.stat(folder).st_uid
         self.passed: Set[str] = set() # boxes that are not as they have to be
 
     def path(self, *names: str) -> str:
@@ -84,7 +84,7 @@ class Site:
         return sorted({int(m[1]) for m in found if m})
 
     def following(self) -> List[int]:
-        """The numbers of the next round and of the next text, as the site's own file tells them."""
+        """The numbers of the next round and of the next submission, as the site's own file tells them."""
         return [int(line[1]) for line in told_lines(self.path('next'))] if os.path.exists(self.path('next')) else [1, 1]
 
     def follow(self, n: int, following: int) -> None:
@@ -103,7 +103,7 @@ class Site:
     def is_good_box(self, account: str) -> bool:
         path = self.path('in', account)
         seen = os.lstat(path) if os.path.lexists(path) else None
-        good = seen is not None and stat.S_ISDIR(seen.st_mode) and seen.st_uid in (self.users[account], self.keeper) and not seen.st_mode & 0o007
+        good = seen is not None and stat.S_ISDIR(seen.st_mode) and seen.st_uid in (self.users[account], self.operator) and not seen.st_mode & 0o007
         if not good:
             self.passed.add(account)
         return good
@@ -157,7 +157,7 @@ class Site:
         return name
 
     def sort(self, files: List[Taken], names: Names, catalogue: bytes) -> Tuple[Replies, List[List[Text]]]:
-        """What is replied to each file that does not run, by id, and of each account the texts that do: (id, account, text)."""
+        """What is replied to each file that does not run, by id, and of each account the submissions that do: (id, account, text)."""
         owned = self.owned(catalogue)
         replies: Replies = {}
         queues: Dict[str, List[Text]] = {account: [] for account in self.accounts}
@@ -193,7 +193,7 @@ class Site:
         return b'$ACCOUNTS\n' + self.table + catalogue + b'$STREAM\n' + stream + b'$STOP\n'
 
     def alone(self, catalogue: bytes, text: bytes) -> Tuple[bytes, bytes, bytes]:
-        """What a text prints as the only one of a deck, what is told of it, and the catalogue that it leaves."""
+        """What a submission prints as the only one of a deck, what is told of it, and the catalogue that it leaves."""
         audit = self.path('rounds', 'alone.tmp')
         done = subprocess.run([self.snomon, '--audit', audit], input=self.deck(catalogue, text), capture_output=True, timeout=60, check=True)
         told = read(audit)
@@ -204,7 +204,7 @@ class Site:
         return done.stdout[:heading.start()], told[:-len(ENDED)], done.stdout[heading.start():]
 
     def printouts(self, catalogue: bytes, texts: Iterable[Text]) -> Tuple[List[bytes], List[bytes], bytes]:
-        """What each text is given, and what is told of it, with the jobs numbered through the round; and the catalogue behind the last."""
+        """What each submission is given, and what is told of it, with the jobs numbered through the round; and the catalogue behind the last."""
         jobs = 0
         parts: List[bytes] = []
         audits: List[bytes] = []
@@ -254,7 +254,7 @@ class Site:
         self.put('rounds/%d.done' % n, b'')
 
     def run(self, out: TextIO = sys.stdout) -> int:
-        """The exit status: 3 where a box was passed over, 1 where a text was refused. (A module called site is Python's own.)"""
+        """The exit status: 3 where a box was passed over, 1 where a submission was refused. (A module called site is Python's own.)"""
         self.free_boxes()
         n, refused = self.go_on()
         n = max(n, self.following()[0]) if not self.is_begun(n) else n
@@ -293,7 +293,7 @@ class Site:
         return {number: name for number, (_, name) in self.plan(n)[0].items()}
 
     def go_on(self) -> Tuple[int, int]:
-        """What is left to do of the newest round is done. The number of the next, and how many texts were refused in that one."""
+        """What is left to do of the newest round is done. The number of the next, and how many submissions were refused in that one."""
         n = max(self.numbers(), default=0)
         there = {end for end in ('out', 'done', 'deck') if os.path.exists(self.path('rounds', '%d.%s' % (n, end)))}
         if n == 0 or 'done' in there:
@@ -357,7 +357,7 @@ def canonical(table: bytes, catalogue: bytes) -> bytes:
 
 
 def plan_of(files: List[Taken], names: Names, replies: Replies, texts: List[Text], end: str) -> bytes:
-    """The texts that run, in their order; the others, by id; and how many bytes stand before the first text, the checksum of the
+    """The submissions that run, in their order; the others, by id; and how many bytes stand before the first submission, the checksum of the
     catalogue's file, and the next id."""
     file_of = {one.number: one.name for one in files}
     lines = ['RUN %s %s %d\n' % (file_of[number], names.get(number, '-'), len(text)) for number, _, text in texts]
@@ -366,7 +366,7 @@ def plan_of(files: List[Taken], names: Names, replies: Replies, texts: List[Text
 
 
 def refused_line(text: bytes, number: int, why: str) -> str:
-    """The line of a text that settles why it is refused, and a mark under the place."""
+    """The line of a submission that settles why it is refused, and a mark under the place."""
     lines = lines_of(text)
     line = lines[number - 1] if number <= len(lines) else b''
     shown = ''.join(chr(c) if 32 <= c <= 126 else '?' for c in line[:200])

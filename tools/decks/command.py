@@ -253,16 +253,16 @@ def _add_audit(kind: Kind) -> None:
 def _add_history(kind: Kind) -> None:
     made = kind('history', _history, 'list what the ledger of a site tells: what was claimed, ran and changed, of whom and when',
                 'It is for sites that keep a ledger, DIR/keep/ledger; one that has a folder of rounds keeps none, and audit is for that. '
-                'Each commit has to name the SHA-256 of the one before it: the file of one that does not is told, and nothing is listed. A row '
-                'has the commit, the UTC time, the number of the text and its account, or the keeper, and what happened. It is one for each text '
-                'that was claimed, refused, run or dropped; for each data set that is new, changed or gone, with what it was; for each line '
-                'of the keeper\'s tables that is new or gone; and for what a text\'s jobs and commands asked for, with how often.')
+                'Each commit has to name the SHA-256 of the one before it: the file of one that does not is told, and nothing is listed. A row has '
+                'the commit, the UTC time, the number of the submission and its account, or the operator, and what happened. It is one for each '
+                'submission that was claimed, refused, run or dropped; for each data set that is new, changed or gone, with what it was; for each '
+                'line of the operator\'s tables that is new or gone; and for what a submission\'s jobs and commands asked for, with how often.')
     made.add_argument('folder', metavar='DIR', help='the folder of the site')
     made.add_argument('--since', type=a_time, metavar='TIME', help='only from this UTC time on: 2026-11-27, or 2026-11-27T08:30:00')
     made.add_argument('--until', type=a_time, metavar='TIME', help='only what was before this UTC time')
     made.add_argument('--account', type=a_name, metavar='NAME', help='only what this account did, and lines of tables that are of it')
     made.add_argument('--set', type=a_name, metavar='SET', help='only what was asked of the data set of this name, and its changes')
-    made.add_argument('--denied', action='store_true', help='only what was denied, and texts that were refused or dropped')
+    made.add_argument('--denied', action='store_true', help='only what was denied, and submissions that were refused or dropped')
     form = made.add_mutually_exclusive_group()
     form.add_argument('--csv', dest='form', action='store_const', const='csv', default='table', help='write comma-separated values and not a table')
     form.add_argument('--json', dest='form', action='store_const', const='json', help='write a JSON list of objects, one a line')

@@ -1,5 +1,5 @@
-"""What the records of a ledger tell, one after the other, with what has to be known of those before them: whose a text is, and what the
-data sets and the keeper's tables were. What is kept for that grows with the texts that wait and the data sets, not with the ledger."""
+"""What the records of a ledger tell, one after the other, with what has to be known of those before them: whose a submission is, and what
+the data sets and the operator's tables were. What is kept for that grows with the submissions that wait and the data sets, not with the ledger."""
 from __future__ import annotations
 
 import datetime
@@ -15,13 +15,13 @@ from .catalogue import Sets
 from .ledger import Commit, Field, Record, fields_of
 from .text import CATALOGUE_LIMIT, PIECE, OutputLines, Refused
 
-TABLES = ('accounts', 'users', 'limits')  # of the keeper, in this order in a record
+TABLES = ('accounts', 'users', 'limits')  # of the operator, in this order in a record
 LATEST = 253402300799                     # the last second of the year 9999
 AUDIT_PIECE = 1 << 16
 OTHERS = re.compile('[\x00-\x1f\x7f-\x9f\u2028\u2029]')
 
 Line = Tuple[str, ...]  # of an audit: job, account, event, set, statement, answer, more
-Text = Optional[int]    # the number of one; of the keeper's acts there is none
+Submission = Optional[int]  # the number of one; of the operator's acts there is none
 
 
 def plain(text: bytes) -> str:
@@ -43,7 +43,7 @@ class Head(NamedTuple):
 
 
 class Claim(NamedTuple):
-    """Whose a text is, of which user of the system, and what its file was called."""
+    """Whose a submission is, of which user of the system, and what its file was called."""
     account: str
     uid: int
     file: str
@@ -52,7 +52,7 @@ class Claim(NamedTuple):
 @dataclass
 class Known:
     """What is known where a record begins."""
-    next: int = 0  # no number of a text from this one on was given
+    next: int = 0  # no number of a submission from this one on was given
     waiting: Dict[int, Claim] = field(default_factory=dict)
     heads: Dict[str, Head] = field(default_factory=dict)
     lines: Dict[str, List[str]] = field(default_factory=lambda: {name: [] for name in TABLES})
@@ -60,7 +60,7 @@ class Known:
 
 @dataclass(frozen=True)
 class Claimed:
-    """A file was claimed. It waits as a text; or was refused with a reply."""
+    """A file was claimed. It waits as a submission; or was refused with a reply."""
     number: int
     claim: Claim
     size: int
@@ -74,7 +74,7 @@ class Claimed:
 
 @dataclass(frozen=True)
 class Ended:
-    """A text ran, and printed so much; or was dropped for a reason, with a reply."""
+    """A submission ran, and printed so much; or was dropped for a reason, with a reply."""
     number: int
     claim: Optional[Claim]
     printed: int
@@ -84,14 +84,14 @@ class Ended:
 
 @dataclass(frozen=True)
 class Asked:
-    """What a text's jobs and commands asked for and what came of it: in the order of the first time, and how often."""
+    """What a submission's jobs and commands asked for and what came of it: in the order of the first time, and how often."""
     number: int
     told: Dict[Line, int]
 
 
 @dataclass(frozen=True)
 class Changed:
-    """A data set is new, or gone, or changed: so many of its records stay, and others stand behind them. It was a text, or an edit."""
+    """A data set is new, or gone, or changed: so many of its records stay, and others stand behind them. It was a submission, or an edit."""
     number: Optional[int]
     claim: Optional[Claim]
     data_set: str
@@ -103,7 +103,7 @@ class Changed:
 
 @dataclass(frozen=True)
 class Tables:
-    """One of the keeper's tables has lines no more, and others that it had not."""
+    """One of the operator's tables has lines no more, and others that it had not."""
     table: str
     gone: List[str]
     new: List[str]
@@ -111,7 +111,7 @@ class Tables:
 
 @dataclass(frozen=True)
 class Edited:
-    """The keeper did this."""
+    """The operator did this."""
     act: str
 
 
@@ -134,10 +134,10 @@ What = Union[Claimed, Ended, Asked, Changed, Tables, Edited, Given, Checked]
 
 @dataclass(frozen=True)
 class Happened:
-    """What a record tells, when, and who the keeper was, if it was an edit."""
+    """What a record tells, when, and who the operator was, if it was an edit."""
     commit: Commit
     time: str
-    keeper: Optional[str]
+    operator: Optional[str]
     what: What
 
 
@@ -149,26 +149,26 @@ class Course:
         self.shapes = Shapes()
 
     def told(self, commit: Commit) -> Iterator[Happened]:
-        """What a commit tells: its record, and then what that changed, which a text did or the keeper."""
+        """What a commit tells: its record, and then what that changed, which a submission did or the operator."""
         head = commit.head
-        keeper = plain(head.text('who')) if head.kind == 'EDIT' else None
-        text = head.number('number') if 'number' in head.fields else None
+        operator = plain(head.text('who')) if head.kind == 'EDIT' else None
+        submission = head.number('number') if 'number' in head.fields else None
         try:
             time = time_of(head.number('time'))
             for record in (head, *commit.changes):
-                for what in TOLD_BY[record.kind](self, record, text):
-                    yield Happened(commit, time, keeper, what)
+                for what in TOLD_BY[record.kind](self, record, submission):
+                    yield Happened(commit, time, operator, what)
         except Refused as fault:
             raise Refused(f'{commit.path}: {fault}') from fault
-        if text is not None and head.kind != 'TOOK':
-            self.known.waiting.pop(text, None)
+        if submission is not None and head.kind != 'TOOK':
+            self.known.waiting.pop(submission, None)
 
-    def took(self, record: Record, _: Text) -> Iterator[What]:
+    def took(self, record: Record, _: Submission) -> Iterator[What]:
         number, claim = self._claim(record)
         self.known.waiting[number] = claim
         yield Claimed(number, claim, len(record.fields['text']), None)
 
-    def refused(self, record: Record, _: Text) -> Iterator[What]:
+    def refused(self, record: Record, _: Submission) -> Iterator[What]:
         yield Claimed(*self._claim(record), 0, plain_lines(record.text('reply')))
 
     def _claim(self, record: Record) -> Tuple[int, Claim]:
@@ -178,37 +178,37 @@ class Course:
         self.known.next = number + 1
         return number, Claim(plain(record.text('account')), record.number('uid'), plain(record.text('name')))
 
-    def ran(self, record: Record, _: Text) -> Iterator[What]:
+    def ran(self, record: Record, _: Submission) -> Iterator[What]:
         number = record.number('number')
         yield Ended(number, self.known.waiting.get(number), len(record.fields['printout']), None, None)
 
-    def dropped(self, record: Record, _: Text) -> Iterator[What]:
+    def dropped(self, record: Record, _: Submission) -> Iterator[What]:
         number = record.number('number')
         yield Ended(number, self.known.waiting.get(number), 0, plain(record.text('reason')), plain_lines(record.text('reply')))
 
-    def audit(self, record: Record, text: Text) -> Iterator[What]:
-        if text is None:
-            raise Refused('it has an audit, and no text ran')
+    def audit(self, record: Record, submission: Submission) -> Iterator[What]:
+        if submission is None:
+            raise Refused('it has an audit, and no submission ran')
         told: 'Counter[Line]' = Counter()
         for piece in _pieces(record.fields['lines']):
             if not self.shapes.are_of(piece):
                 raise _bad_line(record.text('lines'))
             told.update(map(_asked, piece.decode('latin-1')[:-1].split('\n')))
-        yield Asked(text, told)
+        yield Asked(submission, told)
 
-    def keep(self, record: Record, text: Text) -> Iterator[What]:
+    def keep(self, record: Record, submission: Submission) -> Iterator[What]:
         before, kept, records = self._head(record), record.number('first'), records_of(record)
         if kept > before.records:
             raise Refused(f'it keeps {kept} records of a data set that has {before.records}')
-        yield self._changed(record, text, before._replace(records=kept + len(records)), kept, records)
+        yield self._changed(record, submission, before._replace(records=kept + len(records)), kept, records)
 
-    def set(self, record: Record, text: Text) -> Iterator[What]:
+    def set(self, record: Record, submission: Submission) -> Iterator[What]:
         after, records = data_set_of(record)
-        yield self._changed(record, text, after, 0, records)
+        yield self._changed(record, submission, after, 0, records)
 
-    def gone(self, record: Record, text: Text) -> Iterator[What]:
+    def gone(self, record: Record, submission: Submission) -> Iterator[What]:
         self._head(record)
-        yield self._changed(record, text, None, 0, [])
+        yield self._changed(record, submission, None, 0, [])
 
     def _head(self, record: Record) -> Head:
         name = plain(record.text('set'))
@@ -216,14 +216,14 @@ class Course:
             raise Refused(f'there is no data set {name} then')
         return self.known.heads[name]
 
-    def _changed(self, record: Record, text: Text, after: Optional[Head], kept: int, records: List[str]) -> Changed:
+    def _changed(self, record: Record, submission: Submission, after: Optional[Head], kept: int, records: List[str]) -> Changed:
         name = plain(record.text('set'))
         before = self.known.heads.pop(name, None)
         if after is not None:
             self.known.heads[name] = after
-        return Changed(text, None if text is None else self.known.waiting.get(text), name, before, after, kept, records)
+        return Changed(submission, None if submission is None else self.known.waiting.get(submission), name, before, after, kept, records)
 
-    def tables(self, record: Record, _: Text) -> Iterator[What]:
+    def tables(self, record: Record, _: Submission) -> Iterator[What]:
         fields = fields_of(record.fields['tables'])
         if fields is None or len(fields) != len(TABLES):
             raise Refused(f'its tables are not {len(TABLES)}, each behind its length')
@@ -234,17 +234,17 @@ class Course:
             if gone or new:
                 yield Tables(table, gone, new)
 
-    def edit(self, record: Record, _: Text) -> Iterator[What]:
+    def edit(self, record: Record, _: Submission) -> Iterator[What]:
         yield Edited(plain(record.text('act')))
 
-    def gave(self, record: Record, _: Text) -> Iterator[What]:
+    def gave(self, record: Record, _: Submission) -> Iterator[What]:
         yield Given(record.number('first'), record.number('last'))
 
-    def checked(self, record: Record, _: Text) -> Iterator[What]:
+    def checked(self, record: Record, _: Submission) -> Iterator[What]:
         yield Checked(record.number('count'), plain(record.text('digest')))
 
 
-TOLD_BY: Dict[str, Callable[[Course, Record, Text], Iterator[What]]] = {
+TOLD_BY: Dict[str, Callable[[Course, Record, Submission], Iterator[What]]] = {
     'TOOK': Course.took, 'REFUSED': Course.refused, 'RAN': Course.ran, 'AUDIT': Course.audit, 'KEEP': Course.keep, 'SET': Course.set,
     'GONE': Course.gone, 'DROPPED': Course.dropped, 'GAVE': Course.gave, 'TABLES': Course.tables, 'CHECKED': Course.checked, 'EDIT': Course.edit}
 

@@ -10,14 +10,14 @@ from .ledger import Ledger
 from .tables import Columns, Row, write_rows
 from .text import PIECE, counted
 
-COLUMNS = Columns(('commit', 'time', 'text', 'account', 'keeper', 'event', 'set', 'job', 'statement', 'answer', 'times', 'more'),
-                  frozenset(('commit', 'text', 'job', 'statement', 'times')))
+COLUMNS = Columns(('commit', 'time', 'submission', 'account', 'operator', 'event', 'set', 'job', 'statement', 'answer', 'times', 'more'),
+                  frozenset(('commit', 'submission', 'job', 'statement', 'times')))
 ACCOUNT, EVENT, SET, JOB, ANSWER = (COLUMNS.names.index(name) for name in ('account', 'event', 'set', 'job', 'answer'))
-NOT_SERVED = ('REFUSED', 'DROPPED')                           # what became of a text that did not run
+NOT_SERVED = ('REFUSED', 'DROPPED')                           # what became of a submission that did not run
 ACCOUNT_IN = {TABLES[0]: 0, TABLES[1]: 1}                     # which word of a table's lines is an account
 ASPECTS = (('owner', 0), ('group', 1), ('mode', 2), ('list', 3))  # of a data set, and where its head has them
 
-Cells = Tuple[str, str, str, str, str, str, str, str, str]  # text, account, event, set, job, statement, answer, times, more
+Cells = Tuple[str, str, str, str, str, str, str, str, str]  # submission, account, event, set, job, statement, answer, times, more
 
 
 @dataclass(frozen=True)
@@ -56,8 +56,8 @@ def write_history(site: str, question: Question, form: str, listing: BinaryIO) -
 
 
 def _rows(one: Happened) -> Iterator[Row]:
-    for text, account, *cells in cells_of(one.what):
-        yield (str(one.commit.number), one.time, text, account, one.keeper or '', *cells)
+    for submission, account, *cells in cells_of(one.what):
+        yield (str(one.commit.number), one.time, submission, account, one.operator or '', *cells)
 
 
 @functools.singledispatch
@@ -88,13 +88,13 @@ def _of_asked(what: Asked) -> Iterator[Cells]:
 
 @cells_of.register(Changed)
 def _of_changed(what: Changed) -> Iterator[Cells]:
-    text, account = '' if what.number is None else str(what.number), '' if what.claim is None else what.claim.account
+    submission, account = '' if what.number is None else str(what.number), '' if what.claim is None else what.claim.account
     if what.before is None or what.after is None:
         head = what.after or what.before or Head('', '', '', '', 0)
         event, more = 'GONE' if what.after is None else 'NEW', ' '.join([*head[:4], counted(head.records, 'record')])
     else:
         event, more = 'CHANGED', _differences(what.before, what.after, what.kept)
-    yield text, account, event, what.data_set, '', '', '', '', more
+    yield submission, account, event, what.data_set, '', '', '', '', more
 
 
 def _differences(before: Head, after: Head, kept: int) -> str:

@@ -13,19 +13,19 @@ from .ledger import Ledger
 from .text import Fault, Refused
 
 APPLICATION = 0x536E6F48  # what tells such a database from others
-VERSION = 1               # of its tables
+VERSION = 2               # of its tables
 SCHEMA = '''\
 CREATE TABLE commits (      -- the files of the ledger
     number INTEGER PRIMARY KEY,
     digest TEXT NOT NULL,    -- its SHA-256, which the next commit names
     bytes INTEGER NOT NULL
 );
-CREATE TABLE texts (        -- what users handed in
+CREATE TABLE submissions (  -- what users handed in
     number INTEGER PRIMARY KEY,
     account TEXT NOT NULL,   -- in whose box it was
     uid INTEGER NOT NULL,    -- the user of the system whose file it was
     file TEXT NOT NULL,      -- what that was called
-    bytes INTEGER NOT NULL,  -- its length; of a refused text 0
+    bytes INTEGER NOT NULL,  -- its length; of a refused one 0
     claimed TEXT NOT NULL,   -- when
     state TEXT NOT NULL,     -- WAITS, RAN, REFUSED or DROPPED
     ended TEXT,              -- when it ran, was refused or dropped
@@ -35,8 +35,8 @@ CREATE TABLE texts (        -- what users handed in
     claimed_in INTEGER NOT NULL REFERENCES commits,
     ended_in INTEGER REFERENCES commits
 );
-CREATE TABLE asked (        -- what a text's jobs and commands asked for, as snomon-audit(5) has it
-    text INTEGER NOT NULL REFERENCES texts,
+CREATE TABLE asked (        -- what a submission's jobs and commands asked for, as snomon-audit(5) has it
+    submission INTEGER NOT NULL REFERENCES submissions,
     time TEXT NOT NULL,
     job INTEGER NOT NULL,    -- 0 of a command
     account TEXT NOT NULL,
@@ -50,8 +50,8 @@ CREATE TABLE asked (        -- what a text's jobs and commands asked for, as sno
 CREATE TABLE changes (      -- data sets that are new, changed or gone
     id INTEGER PRIMARY KEY,
     time TEXT NOT NULL,
-    text INTEGER REFERENCES texts,   -- by which text
-    edit INTEGER REFERENCES edits,   -- or by which act of the keeper
+    submission INTEGER REFERENCES submissions,  -- by which submission
+    edit INTEGER REFERENCES edits,  -- or by which act of the operator
     data_set TEXT NOT NULL,
     change TEXT NOT NULL,    -- NEW, CHANGED or GONE
     owner TEXT,              -- from then on, as all behind it; of a set that is gone nothing
@@ -68,14 +68,14 @@ CREATE TABLE records (      -- which record stood in a data set, and from which 
     since_change INTEGER NOT NULL REFERENCES changes,
     until_change INTEGER REFERENCES changes
 );
-CREATE TABLE edits (        -- what the keeper did by commands
+CREATE TABLE edits (        -- what the operator did by commands
     id INTEGER PRIMARY KEY,
     time TEXT NOT NULL,
     who TEXT NOT NULL,
     act TEXT NOT NULL,
     in_commit INTEGER NOT NULL REFERENCES commits
 );
-CREATE TABLE keeper_lines ( -- which lines stood in accounts, users and limits
+CREATE TABLE operator_lines ( -- which lines stood in accounts, users and limits
     table_name TEXT NOT NULL,
     line TEXT NOT NULL,
     since TEXT NOT NULL,
@@ -83,7 +83,7 @@ CREATE TABLE keeper_lines ( -- which lines stood in accounts, users and limits
 );
 CREATE TABLE given (        -- which answers were brought to the disk
     time TEXT NOT NULL,
-    first INTEGER NOT NULL,  -- the number of a text
+    first INTEGER NOT NULL,  -- the number of a submission
     last INTEGER NOT NULL
 );
 CREATE TABLE checkpoints (
@@ -96,18 +96,18 @@ CREATE VIEW used AS         -- what was granted, and by which permission of a li
     FROM asked WHERE event IN ('READ', 'LIST', 'WRITE', 'ENDFILE', 'SHOWACL', 'CATALOG')
     AND answer IN ('GOT', 'EOF', 'DONE', 'FULL', 'RECORDS', 'ENTRIES', 'SHOWN') AND data_set NOT LIKE '.%';
 CREATE VIEW versions AS     -- what each data set was from one change to the next, and which change was before it
-    SELECT id, data_set, time AS since, until, text, edit, owner, group_name, mode, list, records, before
+    SELECT id, data_set, time AS since, until, submission, edit, owner, group_name, mode, list, records, before
     FROM (SELECT *, lead(time) OVER later AS until, lag(id) OVER later AS before
           FROM changes WINDOW later AS (PARTITION BY data_set ORDER BY id))
     WHERE change <> 'GONE';
-CREATE VIEW held AS         -- which record stood where from when to when, and which text or edit put it there
-    SELECT records.data_set, place, record, put.time AS since, gone.time AS until, put.text, put.edit
+CREATE VIEW held AS         -- which record stood where from when to when, and which submission or edit put it there
+    SELECT records.data_set, place, record, put.time AS since, gone.time AS until, put.submission, put.edit
     FROM records JOIN changes AS put ON put.id = since_change LEFT JOIN changes AS gone ON gone.id = until_change;
 CREATE INDEX asked_of ON asked (data_set, time);
 CREATE INDEX changes_of ON changes (data_set, id);
 CREATE INDEX standing ON records (data_set, place) WHERE until_change IS NULL;
 CREATE INDEX records_of ON records (data_set, since_change);
-CREATE INDEX standing_lines ON keeper_lines (table_name, line) WHERE until IS NULL;
+CREATE INDEX standing_lines ON operator_lines (table_name, line) WHERE until IS NULL;
 '''
 
 
@@ -174,12 +174,12 @@ def _first_new(ledger: Ledger, base: sqlite3.Connection, path: str) -> Tuple[int
 
 
 def _known(base: sqlite3.Connection) -> Known:
-    """What has to be known of the commits that the database has. Whose a text is stands in its table."""
-    known = Known(next=base.execute('SELECT ifnull(max(number), -1) + 1 FROM texts').fetchone()[0])
+    """What has to be known of the commits that the database has. Whose a submission is stands in its table."""
+    known = Known(next=base.execute('SELECT ifnull(max(number), -1) + 1 FROM submissions').fetchone()[0])
     for data_set, *head in base.execute("SELECT data_set, owner, group_name, mode, list, records FROM changes WHERE change <> 'GONE' "
                                         'AND id IN (SELECT max(id) FROM changes GROUP BY data_set)'):
         known.heads[data_set] = Head(*head)
-    for table, line in base.execute('SELECT table_name, line FROM keeper_lines WHERE until IS NULL ORDER BY rowid'):
+    for table, line in base.execute('SELECT table_name, line FROM operator_lines WHERE until IS NULL ORDER BY rowid'):
         known.lines[table].append(line)
     return known
 
@@ -189,7 +189,7 @@ class Writer:
 
     def __init__(self, base: sqlite3.Connection) -> None:
         self.base = base
-        self.edit: Optional[int] = None  # the keeper's last
+        self.edit: Optional[int] = None  # the operator's last
 
     def write(self, one: Happened) -> None:
         what = one.what
@@ -197,7 +197,7 @@ class Writer:
             self._claimed(one, what)
         elif isinstance(what, Ended):
             state = 'RAN' if what.reason is None else 'DROPPED'
-            self.base.execute('UPDATE texts SET state = ?, ended = ?, reason = ?, reply = ?, printed = ?, ended_in = ? WHERE number = ?',
+            self.base.execute('UPDATE submissions SET state = ?, ended = ?, reason = ?, reply = ?, printed = ?, ended_in = ? WHERE number = ?',
                               (state, one.time, what.reason, what.reply, what.printed, one.commit.number, what.number))
         elif isinstance(what, Asked):
             self.base.executemany('INSERT INTO asked VALUES (?, ?, ?, ?, ?, ?, ?, ?, ?, ?)', (
@@ -208,7 +208,7 @@ class Writer:
         elif isinstance(what, Tables):
             self._tables(one, what)
         elif isinstance(what, Edited):
-            self.edit = self.base.execute('INSERT INTO edits VALUES (NULL, ?, ?, ?, ?)', (one.time, one.keeper, what.act, one.commit.number)).lastrowid
+            self.edit = self.base.execute('INSERT INTO edits VALUES (NULL, ?, ?, ?, ?)', (one.time, one.operator, what.act, one.commit.number)).lastrowid
         elif isinstance(what, Given):
             self.base.execute('INSERT INTO given VALUES (?, ?, ?)', (one.time, what.first, what.last))
         elif isinstance(what, Checked):
@@ -217,14 +217,14 @@ class Writer:
     def _claimed(self, one: Happened, what: Claimed) -> None:
         is_taken, number = what.reply is None, one.commit.number
         ended = (None, None, None, None) if is_taken else (one.time, what.reason(), what.reply, number)
-        self.base.execute('INSERT INTO texts (number, account, uid, file, bytes, claimed, state, claimed_in, ended, reason, reply, ended_in) '
+        self.base.execute('INSERT INTO submissions (number, account, uid, file, bytes, claimed, state, claimed_in, ended, reason, reply, ended_in) '
                           'VALUES (?, ?, ?, ?, ?, ?, ?, ?, ?, ?, ?, ?)',
                           (what.number, *what.claim, what.size, one.time, 'WAITS' if is_taken else 'REFUSED', number, *ended))
 
     def _changed(self, one: Happened, what: Changed) -> None:
         change = 'GONE' if what.after is None else 'NEW' if what.before is None else 'CHANGED'
         made = self.base.execute('INSERT INTO changes VALUES (NULL, ?, ?, ?, ?, ?, ?, ?, ?, ?, ?, ?)', (
-            one.time, what.number, None if one.keeper is None else self.edit, what.data_set, change, *(what.after or (None,) * 5), one.commit.number)).lastrowid
+            one.time, what.number, None if one.operator is None else self.edit, what.data_set, change, *(what.after or (None,) * 5), one.commit.number)).lastrowid
         now = dict(enumerate(what.records, what.kept + 1))
         stood = dict(self.base.execute('SELECT place, record FROM records WHERE data_set = ? AND until_change IS NULL AND place > ?',
                                        (what.data_set, what.kept)))
@@ -234,6 +234,6 @@ class Writer:
             (what.data_set, place, record, made) for place, record in now.items() if stood.get(place) != record))
 
     def _tables(self, one: Happened, what: Tables) -> None:
-        self.base.executemany('UPDATE keeper_lines SET until = ? WHERE table_name = ? AND line = ? AND until IS NULL', (
+        self.base.executemany('UPDATE operator_lines SET until = ? WHERE table_name = ? AND line = ? AND until IS NULL', (
             (one.time, what.table, line) for line in what.gone))
-        self.base.executemany('INSERT INTO keeper_lines VALUES (?, ?, ?, NULL)', ((what.table, line, one.time) for line in what.new))
+        self.base.executemany('INSERT INTO operator_lines VALUES (?, ?, ?, NULL)', ((what.table, line, one.time) for line in what.new))

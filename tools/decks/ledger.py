@@ -2,7 +2,7 @@
 
 What a text of fields is, and which fields a record has, is defined in crates/ledger_text/specs (Text, Records); what a commit has, in
 crates/ledger_run/specs (Meaning); how the files are called, in crates/ledger_disk/src. A commit has three fields: the digest of the one
-before it, a record, and what that changed: nothing, or the text of fields each of which is a record. When it was, and of which text, the
+before it, a record, and what that changed: nothing, or the text of fields each of which is a record. When it was, and of which submission, the
 record of the commit says: one in a change says neither."""
 from __future__ import annotations
 

@@ -20,5 +20,5 @@ def drawn(words: List[str], usage: Optional[str], name: str, picture: str, of: s
         return 0
     with open(path, encoding='utf-8') as file:
         same = file.read() == picture
-    print(f'ok docs/{name}.svg is {of}' if same else f'FAILED docs/{name}.svg: run tools/docs/{name}')
+    print(f'ok docs/pictures/{name}.svg is {of}' if same else f'FAILED docs/pictures/{name}.svg: run tools/docs/{name}')
     return 0 if same else 1

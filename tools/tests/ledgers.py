@@ -37,7 +37,7 @@ def seconds(time: Time) -> int:
 
 
 def change(kind: str, *fields: Union[bytes, int]) -> bytes:
-    """A record of a change: it has no time, and no text's number, as crates/ledger_sets writes it."""
+    """A record of a change: it has no time, and no submission's number, as crates/ledger_sets writes it."""
     return record(kind, 0, 0, *fields)
 
 
@@ -106,7 +106,7 @@ COMMITS = [
     [record('RAN', LISTED, 4, b'SETACL anna PAYROLL\nDONE\nCREATE anna NOTES\nDONE\n'),
      audit(1, b'COMMAND 0 anna SETACL PAYROLL DONE ' + SEEN + b' BY owner\nCOMMAND 0 anna CREATE NOTES DONE SEQ\n'),
      data_set(b'PAYROLL anna admin SEQ', SEEN, b'ADA 100', b'BOB 220', b'CYD 330'), data_set(b'NOTES anna admin SEQ', OWN)],
-    # 10 to 14: hugo reads it; a text of lisa is late.
+    # 10 to 14: hugo reads it; a submission of lisa is late.
     [record('TOOK', AUDITED, 5, b'hugo', 1004, b'audit.job', b'$JOB hugo\n..\n$EOJ\n')],
     [record('TOOK', AUDITED, 6, b'lisa', 1002, b'slow.job', b'$JOB lisa\n..\n$EOJ\n')],
     [record('RAN', '2026-10-20 10:00:06', 5, b'JOB 2 hugo\nEND NORMAL AFTER 5\n'),
@@ -128,7 +128,7 @@ COMMITS = [
     [record('RAN', TIDIES, 8, b'..'),
      audit(3, b'COMMAND 0 anna SETACL PAYROLL DONE ' + PAID + b' BY owner\nCOMMAND 0 anna DELETE NOTES DONE BY owner\n'),
      data_set(b'PAYROLL anna admin SEQ', PAID, b'ADA 100', b'BOB 220', b'CYD 330', b'DAN 400'), change('GONE', b'NOTES')],
-    # 21: the keeper takes it back to what it was behind commit 9.
+    # 21: the operator takes it back to what it was behind commit 9.
     [record('EDIT', RESTORES, b'root', b'restore PAYROLL --at 9'),
      data_set(b'PAYROLL anna admin SEQ', SEEN, b'ADA 100', b'BOB 220', b'CYD 330')],
     # 22 to 24: tom speaks for lisa, and looks for what he may read.
@@ -138,7 +138,7 @@ COMMITS = [
      audit(5, b'JOB 4 tom LOADED\nJOB 4 tom ASKED 2 READ 8 PAYROLL 0 DENIED BY other::\n'
             b'JOB 4 tom ASKED 3 READ 9 JOURNAL 0 DENIED BY group::\nJOB 4 tom ASKED 4 READ 9 JOURNAL 0 DENIED BY group::\n'
             b'JOB 4 tom ENDED FAULT TYPE AT 5 AFTER 5\nJOB 5 tom REFUSED U1 UNIT 8\n')],
-    # 25, 26: a checkpoint; and a text that waits.
+    # 25, 26: a checkpoint; and a submission that waits.
     [record('CHECKED', CHECKED, 25, b'c' * 64)],
     [record('TOOK', WAITS, 11, b'lisa', 1002, b'later.job', b'$JOB lisa\n..\n$EOJ\n')],
 ]
@@ -173,7 +173,7 @@ def write_large(site: str, commits: int) -> Writer:
 
 
 def _work(time: Time, number: int, account: bytes, which: int, held: int) -> Tuple[bytes, bytes]:
-    """The audit of a text, and the data set that has so many records now."""
+    """The audit of a submission, and the data set that has so many records now."""
     name, line = b'SET%d' % which, b'ENTRY %d OF %b' % (number, account)
     reads = b''.join(b'JOB %d %b ASKED %d READ 8 %b %d GOT BY group::\n' % (number, account, 3 + place % 2, name, place) for place in range(20))
     told = b'JOB %d %b LOADED\n%bJOB %d %b ASKED 9 WRITE 9 %b %d DONE BY group::\nJOB %d %b ENDED NORMAL AFTER 30\n' % (

@@ -1,4 +1,4 @@
-"""A site's folder to try: of one user with three accounts, of two users of the system, and of a keeper who is not root."""
+"""A site's folder to try: of one user with three accounts, of two users of the system, and of an operator who is not root."""
 from __future__ import annotations
 
 import os
@@ -91,7 +91,7 @@ class SiteTrying(Trying):
 
 
 class UsersTrying(SiteTrying):
-    """A site of two users as the kernel knows them; the keeper is root."""
+    """A site of two users as the kernel knows them; the operator is root."""
 
     users = {'anna': NOBODY, 'lisa': OTHER}
     demonstration = False
@@ -109,16 +109,16 @@ class UsersTrying(SiteTrying):
             self.assertEqual(self.as_user(account, 'umask 077; cat "$1" >"$2"', file.name, os.fsdecode(self.box(account, name))), 0)
 
 
-class KeeperTrying(UsersTrying):
-    """The same site, and its keeper is not root."""
+class OperatorTrying(UsersTrying):
+    """The same site, and its operator is not root."""
 
-    keeper = 64010
+    operator = 64010
 
     def setUp(self) -> None:
         super().setUp()
         self.program = SITE
         with open(SITE, 'rb') as file:
-            if file.read(4) == b'\x7fELF': # which the keeper may not reach where it stands
+            if file.read(4) == b'\x7fELF': # which the operator may not reach where it stands
                 self.program = self.path('program')
                 shutil.copy(SITE, self.program)
         for place, folders, files in os.walk(self.folder):
@@ -126,15 +126,15 @@ class KeeperTrying(UsersTrying):
                 path = os.path.join(place, name)
                 box = os.path.relpath(place, self.folder).split('/')
                 if box[0] == 'in' and len(box) == 2:
-                    os.chown(path, -1, self.keeper)
+                    os.chown(path, -1, self.operator)
                 else:
-                    os.chown(path, self.keeper, -1 if box[0] == 'out' and len(box) == 2 else self.keeper)
+                    os.chown(path, self.operator, -1 if box[0] == 'out' and len(box) == 2 else self.operator)
         for account in self.users: # chown takes these bits away
             os.chmod(self.folder + '/in/' + account, 0o2770)
             os.chmod(self.folder + '/out/' + account, 0o2750)
 
     def site(self, *words: str, **more: Any) -> Done:
-        return run([self.program, *words], cwd='/', user=self.keeper, group=self.keeper, extra_groups=[], umask=0o027, **more)
+        return run([self.program, *words], cwd='/', user=self.operator, group=self.operator, extra_groups=[], umask=0o027, **more)
 
     def drops(self, account: str, name: Name, content: bytes) -> None:
         super().drops(account, name, content)
@@ -195,7 +195,7 @@ class Kept(SiteTrying):
         self.write('site/' + name, content)
 
     def serves(self, account: str = 'lisa') -> None:
-        """One more text of this account is answered in the next run."""
+        """One more submission of this account is answered in the next run."""
         before = len(self.answers(account))
         self.drop(account, 'one more', b'$LIST %s LOG\n' % account.encode())
         done = self.site('run', self.folder)

@@ -15,9 +15,9 @@ from decks.course import Course, Known
 from decks.ledger import Ledger
 from ledgers import MONDAY, OWN, Writer, audit, change, data_set, record, tables, text_of
 
-TITLE = 'commit,time,text,account,keeper,event,set,job,statement,answer,times,more'
+TITLE = 'commit,time,submission,account,operator,event,set,job,statement,answer,times,more'
 PAID, SEEN = ledgers.PAID.decode(), ledgers.SEEN.decode()
-# What each row of the example has behind its time, by its commit: text, account, keeper, event, set, job, statement, answer, times, more.
+# What each row of the example has behind its time, by its commit: submission, account, operator, event, set, job, statement, answer, times, more.
 ROWS = {
     0: ['||root|EDIT||||||init', f'||root|NEW|PAYROLL|||||anna admin SEQ {PAID} 3 records',
         '||root|NEW|JOURNAL|||||anna staff APPEND user::rw-,group::-w-,other::--- 1 record', f'||root|NEW|OLD|||||anna admin SEQ {OWN.decode()} 1 record'],
@@ -97,11 +97,11 @@ class Told(Trying):
         table = deck('history', self.path('site'), '--denied', '-o', self.path('list'))
         self.assertEqual((table.status, table.out, table.err), (0, b'', ''))
         self.assertEqual(self.read('list').decode().splitlines()[:3], [
-            'commit  time                  text  account  keeper  event    set      job  statement  answer  times  more',
-            '     4  2026-10-05T08:00:00Z     3  hugo             REFUSED                                          as-anna.cards of uid 1004: LINE 1: I1 FOREIGN ACCOUNT',
-            '     6  2026-10-05T08:00:02Z     2  hugo             LIST     PAYROLL    0             DENIED      1  BY other::'])
+            'commit  time                  submission  account  operator  event    set      job  statement  answer  times  more',
+            '     4  2026-10-05T08:00:00Z           3  hugo               REFUSED                                          as-anna.cards of uid 1004: LINE 1: I1 FOREIGN ACCOUNT',
+            '     6  2026-10-05T08:00:02Z           2  hugo               LIST     PAYROLL    0             DENIED      1  BY other::'])
 
-    def test_time_and_text_are_those_of_the_commit(self) -> None:
+    def test_time_and_submission_are_those_of_the_commit(self) -> None:
         writer = Writer(self.path('site'))
         listed = b'user::rw-,group::---,other::---'
         writer.put(record('EDIT', MONDAY, b'root', b'init'), data_set(b'LOG lisa staff SEQ', listed), tables(0, b'lisa staff\n', b'', b''))
@@ -218,7 +218,7 @@ class Broken(Trying):
                 ([[edit, change('SET', b'LOG', b'$SET GOL anna admin SEQ 0\n' + OWN + b'\n', b'')]], 'its head is not that of LOG'),
                 ([[edit, log], [edit, change('KEEP', b'LOG', 2, b'A\x07\n')]], 'its records: line 1: T3 BAD CHARACTER'),
                 ([[edit, log], [edit, change('KEEP', b'LOG', 2, b'A')]], 'its records: line 1: the file ends within this line'),
-                ([[edit, audit(1, b'JOB 1 lisa LOADED\n')]], 'it has an audit, and no text ran'),
+                ([[edit, audit(1, b'JOB 1 lisa LOADED\n')]], 'it has an audit, and no submission ran'),
                 ([[edit, record('TABLES', 0, b'anna admin\n')]], 'its tables are not 3'),
                 ([[record('TABLES', MONDAY, b'anna admin\n')]], 'its tables are not 3'), ([[record('TABLES', MONDAY, text_of([b'', b'']))]], 'its tables are not 3'),
                 ([[took], [record('RAN', MONDAY, 4, b''), audit(1, b'JOB 1 lisa LOADED\nJOB 1 lisa SLEPT\n')]],

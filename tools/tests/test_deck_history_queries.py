@@ -99,7 +99,7 @@ class Queries(Trying):
         ledgers.write_example(self.path('site'))
         self.write('text', b'no database, but a text that is longer than the beginning of one has to be\n' * 20)
         with sqlite3.connect(self.path('other')) as other:
-            other.execute('CREATE TABLE texts (number)')
+            other.execute('CREATE TABLE submissions (number)')
         with sqlite3.connect(self.path('older')) as older:
             older.execute('CREATE TABLE commits (number)')
             older.execute('PRAGMA application_id = %d' % 0x536E6F48)

@@ -1,5 +1,5 @@
-"""Random rounds, run whole, and text by text over the data sets of the text's part alone: the law of rounds in parts, tried by
-runs of snomon. Each text's printout and audit, each data set, and the order of these by the cards alone, have the same bytes."""
+"""Random rounds, run whole, and submission by submission over the data sets of the submission's part alone: the law of rounds in parts, tried by
+runs of snomon. Each submission's printout and audit, each data set, and the order of these by the cards alone, have the same bytes."""
 from __future__ import annotations
 
 import os
@@ -72,7 +72,7 @@ def owner(text: str) -> str:
 
 
 def names_behind(sets: Sets, texts: List[Text]) -> List[Tuple[str, str]]:
-    """The names of the data sets behind the texts, with their owners, by the `$CREATE` and `$DELETE` cards alone."""
+    """The names of the data sets behind the submissions, with their owners, by the `$CREATE` and `$DELETE` cards alone."""
     owners = {name: owner(text) for name, text in sets.items()}
     for text in texts:
         for word, account, name in re.findall(r'(?m)^\$(CREATE|DELETE) (\w+) (\w+)', text.cards):
@@ -161,7 +161,7 @@ class RoundsInParts(unittest.TestCase):
                 made = Writer(seed).round()
                 self.is_its_parts(made)
                 texts += len(made.texts)
-        self.seen = f'{ROUNDS} rounds with {texts} texts'
+        self.seen = f'{ROUNDS} rounds with {texts} submissions'
 
     def is_its_parts(self, made: Round) -> None:
         whole = ran(made.sets, ''.join(text.cards + '$DRAIN\n' for text in made.texts))
@@ -179,8 +179,8 @@ class RoundsInParts(unittest.TestCase):
         self.assertEqual([(name, owner(text)) for name, text in whole.sets.items()], names)
         self.assertEqual(list(whole.sets.values()), [left[made.part_of[name]][name] for name, _ in names])
 
-    def test_a_full_catalogue_is_what_texts_share(self) -> None:
-        """Why the law asks for room: with 999 data sets, two texts that each make one differ from their parts."""
+    def test_a_full_catalogue_is_what_submissions_share(self) -> None:
+        """Why the law asks for room: with 999 data sets, two submissions that each make one differ from their parts."""
         def sets(count: int) -> Sets:
             return {f'S{i}': f'$SET S{i} anna admin SEQ 0\nuser::rwx,group::---,other::---\n' for i in range(count)}
         cards = '$CREATE lisa A\n$DRAIN\n$CREATE lisa B\n$DRAIN\n'

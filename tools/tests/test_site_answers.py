@@ -1,4 +1,4 @@
-"""The answers of users whose primary group has others in it, at a site whose keeper is not root: examples/site/answers-acl."""
+"""The answers of users whose primary group has others in it, at a site whose operator is not root: examples/site/answers-acl."""
 from __future__ import annotations
 
 import os
@@ -11,7 +11,7 @@ from trying import Done, NO_WORDS, TOP, run
 import sites
 
 GIVE = os.path.join(TOP, 'examples', 'site', 'answers-acl')
-KEEPER, ANNA, LISA, GROUP = 64010, 64011, 64012, 64013 # no users of the system; the group is that of anna and lisa
+OPERATOR, ANNA, LISA, GROUP = 64010, 64011, 64012, 64013 # no users of the system; the group is that of anna and lisa
 LIST, REFUSED = b'$LIST anna LOG\n', b'$STOP\n'
 HAND_OVER = 'chown "$1:$1" "$2" "$2"/*; chgrp "$1" "$2"/in/*; chown "$1" "$2"/out/*'
 
@@ -28,7 +28,7 @@ def keeps_acls(folder: str) -> bool:
 
 
 @unittest.skipUnless(os.path.exists(sites.SITE), 'there is no site')
-@unittest.skipUnless(os.geteuid() == 0, 'a keeper and two users can only be tried as root')
+@unittest.skipUnless(os.geteuid() == 0, 'an operator and two users can only be tried as root')
 class Answers(sites.SiteTrying):
     users = {'anna': ANNA, 'lisa': LISA}
     demonstration = False
@@ -37,23 +37,23 @@ class Answers(sites.SiteTrying):
         super().setUp()
         if not keeps_acls(self.room):
             self.skipTest('no acls can be set here')
-        self.program = self.path('program') # the keeper may not reach it where it stands
+        self.program = self.path('program') # the operator may not reach it where it stands
         shutil.copy(sites.SITE, self.program)
         self.hand_over()
 
     def hand_over(self) -> None:
-        """The folder, as root made it, is given to the keeper."""
+        """The folder, as root made it, is given to the operator."""
         for name in os.listdir(self.folder + '/out'):
             os.chown(self.folder + '/out/' + name, -1, GROUP)
-        done = run(['/bin/sh', '-e', '-c', HAND_OVER, 'sh', str(KEEPER), self.folder])
+        done = run(['/bin/sh', '-e', '-c', HAND_OVER, 'sh', str(OPERATOR), self.folder])
         self.assertEqual((done.status, done.err), (0, ''))
 
     def site(self, *words: str, **more: Any) -> Done:
-        return run([self.program, *words], cwd='/', user=KEEPER, group=KEEPER, extra_groups=[], umask=0o027, **more)
+        return run([self.program, *words], cwd='/', user=OPERATOR, group=OPERATOR, extra_groups=[], umask=0o027, **more)
 
     def drop(self, account: str, name: sites.Name, content: bytes) -> None:
         super().drop(account, name, content)
-        os.chown(self.box(account, name), -1, KEEPER)
+        os.chown(self.box(account, name), -1, OPERATOR)
         os.chmod(self.box(account, name), 0o640)
 
     def can(self, uid: int, script: str, path: str) -> bool:
@@ -62,7 +62,7 @@ class Answers(sites.SiteTrying):
                               timeout=60).returncode == 0
 
     def answer(self, account: str, content: bytes, status: int = 0) -> str:
-        """A round answers one text: the path of the answer."""
+        """A round answers one submission: the path of the answer."""
         before = set(os.listdir(self.folder + '/out/' + account))
         self.drop(account, 'it', content)
         self.run_site(status=status)
@@ -72,10 +72,10 @@ class Answers(sites.SiteTrying):
     def give(self, folder: Optional[str] = None) -> Done:
         return run([GIVE, folder or self.folder], cwd='/')
 
-    def test_what_root_made_is_the_keepers(self) -> None:
+    def test_what_root_made_is_the_operators(self) -> None:
         self.assertEqual(self.site('status', self.folder).status, 0)
-        for name, wanted in {'': (KEEPER, KEEPER, 0o755), 'catalogue': (KEEPER, KEEPER, 0o600), 'rounds': (KEEPER, KEEPER, 0o700),
-                             'in/anna': (ANNA, KEEPER, 0o2770), 'out/anna': (KEEPER, GROUP, 0o2750)}.items():
+        for name, wanted in {'': (OPERATOR, OPERATOR, 0o755), 'catalogue': (OPERATOR, OPERATOR, 0o600), 'rounds': (OPERATOR, OPERATOR, 0o700),
+                             'in/anna': (ANNA, OPERATOR, 0o2770), 'out/anna': (OPERATOR, GROUP, 0o2750)}.items():
             seen = os.stat(os.path.join(self.folder, name))
             self.assertEqual((seen.st_uid, seen.st_gid, stat.S_IMODE(seen.st_mode)), wanted, name)
 
@@ -88,7 +88,7 @@ class Answers(sites.SiteTrying):
         after = self.answer('anna', LIST)
         refused = self.answer('anna', REFUSED, status=1)
         for path in (before, after, refused):
-            self.assertEqual([self.can(uid, 'cat "$1"', path) for uid in (ANNA, LISA, KEEPER)], [True, False, True], path)
+            self.assertEqual([self.can(uid, 'cat "$1"', path) for uid in (ANNA, LISA, OPERATOR)], [True, False, True], path)
             self.assertFalse(self.can(LISA, 'ls "$1"', path))
         hers = self.answer('lisa', b'$LIST lisa LOG\n')
         self.assertEqual([self.can(uid, 'cat "$1"', hers) for uid in (ANNA, LISA)], [False, True])
@@ -97,7 +97,7 @@ class Answers(sites.SiteTrying):
         self.give()
         path = self.answer('anna', LIST)
         os.rename(path, self.path('aside'))
-        self.assertEqual([self.can(uid, 'cat "$1"', self.path('aside')) for uid in (ANNA, LISA, KEEPER)], [True, False, True])
+        self.assertEqual([self.can(uid, 'cat "$1"', self.path('aside')) for uid in (ANNA, LISA, OPERATOR)], [True, False, True])
         self.assertFalse(any(self.can(uid, 'echo >>"$1"', self.path('aside')) for uid in (ANNA, LISA)))
 
     def test_nobody_else_lists_or_changes_the_folder(self) -> None:
@@ -113,19 +113,19 @@ class Answers(sites.SiteTrying):
         self.give()
         for name in ('out/anna', 'out/lisa'):
             seen = os.stat(os.path.join(self.folder, name))
-            self.assertEqual((seen.st_uid, seen.st_gid, stat.S_IMODE(seen.st_mode)), (KEEPER, GROUP, 0o2750))
+            self.assertEqual((seen.st_uid, seen.st_gid, stat.S_IMODE(seen.st_mode)), (OPERATOR, GROUP, 0o2750))
         done = self.site('status', self.folder)
         self.assertEqual((done.status, done.err), (0, ''))
         self.assertEqual(self.give().status, 0)
         path = self.answer('anna', LIST)
         seen = os.stat(path)
-        self.assertEqual((seen.st_uid, stat.S_IMODE(seen.st_mode)), (KEEPER, 0o640))
+        self.assertEqual((seen.st_uid, stat.S_IMODE(seen.st_mode)), (OPERATOR, 0o640))
 
     def test_an_account_that_changed_hands_is_given_anew(self) -> None:
         self.give()
         before = self.answer('anna', LIST)
         self.write('site/users', b'# who\n\n  %d  lisa\n%d anna' % (ANNA, LISA))
-        os.chown(self.folder + '/users', KEEPER, KEEPER)
+        os.chown(self.folder + '/users', OPERATOR, OPERATOR)
         self.assertEqual(self.give().status, 0)
         self.assertEqual([self.can(uid, 'ls "$1"', self.folder + '/out/anna') for uid in (ANNA, LISA)], [False, True])
         self.assertFalse(self.can(ANNA, 'cat "$1"', before))

@@ -1,4 +1,4 @@
-"""A user who means ill, at a site whose keeper is root and at one whose keeper is not: the others are served."""
+"""A user who means ill, at a site whose operator is root and at one whose operator is not: the others are served."""
 from __future__ import annotations
 
 import ctypes
@@ -9,7 +9,7 @@ import shutil
 import signal
 import unittest
 from typing import Any, Callable, Iterable, List, Optional, Sequence, Tuple
-from sites import HELLO, KeeperTrying, LISTED, ODD, SITE, Told, UsersTrying
+from sites import HELLO, OperatorTrying, LISTED, ODD, SITE, Told, UsersTrying
 from breaking import Going
 from trying import Done
 
@@ -133,7 +133,7 @@ class Attacking(UsersTrying, Told, Going):
 @unittest.skipUnless(os.path.exists(SITE), 'there is no site')
 @unittest.skipUnless(os.geteuid() == 0, 'two users can only be tried as root')
 class Attacks(Attacking):
-    """The keeper is root."""
+    """The operator is root."""
 
     def test_a_folder_that_changes_places_with_a_file_all_the_time_stops_nobody(self) -> None:
         self.serves_lisa_while(30, (0, 1), [(change_places, self.box('anna', ''), begun) for begun in (b'ab', b'cd', b'ef')])
@@ -244,11 +244,11 @@ class Attacks(Attacking):
 
 
 @unittest.skipUnless(os.path.exists(SITE), 'there is no site')
-@unittest.skipUnless(os.geteuid() == 0, 'a keeper and two users can only be tried as root')
-class AttacksOnAKeeper(KeeperTrying, Attacks):
-    """The same, and the keeper is not root."""
+@unittest.skipUnless(os.geteuid() == 0, 'an operator and two users can only be tried as root')
+class AttacksOnAnOperator(OperatorTrying, Attacks):
+    """The same, and the operator is not root."""
 
-    def test_files_that_the_keeper_may_write_or_only_read_are_claimed_alike(self) -> None:
+    def test_files_that_the_operator_may_write_or_only_read_are_claimed_alike(self) -> None:
         for mode in (0o640, 0o660, 0o600):
             self.drops('lisa', '%o' % mode, b'$LIST lisa LOG\n')
             os.chmod(self.box('lisa', '%o' % mode), mode)

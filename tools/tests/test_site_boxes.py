@@ -20,7 +20,7 @@ class Boxes(Kept):
         self.assertEqual((self.waiting('lisa'), self.answers('lisa')), (sorted(aside[2:]), {1: LISTED % 'lisa'}))
         self.run_site(rounds=0)
 
-    def test_no_more_than_twice_the_texts_of_a_box_are_claimed_a_round(self) -> None:
+    def test_no_more_than_twice_the_submissions_of_a_box_are_claimed_a_round(self) -> None:
         self.put('limits', self.of('limits').replace(b'texts 10\n', b'texts 2\n'))
         names = ['%02d' % k for k in range(11)]
         for name in names:
@@ -47,7 +47,7 @@ class Boxes(Kept):
 
 @unittest.skipUnless(os.path.exists(SITE), 'there is no site')
 class OddNames(Told):
-    """A name that a user or a keeper chose is told in characters that do nothing."""
+    """A name that a user or an operator chose is told in characters that do nothing."""
 
     def test_a_folder_of_an_odd_name_is_told_plainly(self) -> None:
         place = self.path(ODD)

@@ -1,11 +1,11 @@
-"""Rounds that break off: what is on the disk before, and a keeper's edit while a round is open."""
+"""Rounds that break off: what is on the disk before, and an operator's edit while a round is open."""
 from __future__ import annotations
 
 import os
 import signal
 import stat
 import unittest
-from sites import CATALOGUE, KeeperTrying, RIGHTS, SETS, SITE
+from sites import CATALOGUE, OperatorTrying, RIGHTS, SETS, SITE
 from breaking import Going, Watching
 
 
@@ -41,14 +41,14 @@ class Disk(Watching):
 
 
 @unittest.skipUnless(os.path.exists(SITE), 'there is no site')
-@unittest.skipUnless(os.geteuid() == 0, 'a keeper and two users can only be tried as root')
-class DiskOfAKeeper(KeeperTrying, Disk):
-    """The same where the keeper is not root, and so cannot give each file of a user a second name."""
+@unittest.skipUnless(os.geteuid() == 0, 'an operator and two users can only be tried as root')
+class DiskOfAnOperator(OperatorTrying, Disk):
+    """The same where the operator is not root, and so cannot give each file of a user a second name."""
 
 
 @unittest.skipUnless(os.path.exists(SITE), 'there is no site')
 class Edits(Going):
-    """A keeper's edit of the catalogue while a round is open is not lost without a word."""
+    """An operator's edit of the catalogue while a round is open is not lost without a word."""
 
     def is_refused_until_put_back(self, behind: str, *asked: str) -> None:
         self.drop('lisa', 'it', self.GIVES)
@@ -62,7 +62,7 @@ class Edits(Going):
         done = self.site('run', self.folder)
         self.assertEqual((done.status, self.answers('lisa'), os.listdir(self.folder + '/taken')), (0, {1: self.GIVEN}, []), done.err)
         self.assertEqual(self.of('catalogue'), CATALOGUE + b'$SET NEW lisa staff SEQ 0\n' + RIGHTS)
-        self.put('catalogue', self.of('catalogue').replace(b'LOG anna', b'LOG hugo')) # where no round is open, the keeper may
+        self.put('catalogue', self.of('catalogue').replace(b'LOG anna', b'LOG hugo')) # where no round is open, the operator may
         self.serves()
 
     def test_an_edit_behind_a_plan_is_refused_until_it_is_put_back(self) -> None:

@@ -1,4 +1,4 @@
-"""Catalogues that are cut off or not whole, and texts that are made to speak for another account through them."""
+"""Catalogues that are cut off or not whole, and submissions that are made to speak for another account through them."""
 from __future__ import annotations
 
 import os
@@ -26,7 +26,7 @@ class Catalogues(Kept):
         return [(lines[:count], count in whole) for count in range(1, len(lines) + 1)]
 
     def speaks_for_itself(self, catalogue: bytes) -> bool:
-        """Whether the prepared text got what is its own, its catalogue is as it was, and lisa her list."""
+        """Whether the prepared submission got what is its own, its catalogue is as it was, and lisa her list."""
         lists = 'LIST lisa SECRET\n' + (' the secret %d\n' * 6 % (0, 1, 2, 3, 4, 5) + 'RECORDS 6\n' if SETS[0][:12] in catalogue else 'DENIED NO DATA SET\n')
         self.drop('lisa', 'it', b'$LIST lisa SECRET\n')
         done = self.site('run', self.folder)
@@ -51,7 +51,7 @@ class Catalogues(Kept):
         if wrong:
             self.fail('%d cuts: %s' % (len(wrong), wrong[:2]))
 
-    def test_a_catalogue_that_is_cut_off_at_any_line_end_lets_no_text_speak_for_another(self) -> None:
+    def test_a_catalogue_that_is_cut_off_at_any_line_end_lets_no_submission_speak_for_another(self) -> None:
         self.try_each_cut(WHOLE)
 
     def test_a_catalogue_of_the_first_version_that_is_cut_off_does_not_either(self) -> None:

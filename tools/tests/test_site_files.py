@@ -1,4 +1,4 @@
-"""What in a box is no text, and files that change while they are read."""
+"""What in a box is no submission, and files that change while they are read."""
 from __future__ import annotations
 
 import os

@@ -1,4 +1,4 @@
-"""A site's folder: what in it is refused, what the keeper is told, how it is made, and whose its files are."""
+"""A site's folder: what in it is refused, what the operator is told, how it is made, and whose its files are."""
 from __future__ import annotations
 
 import fcntl
@@ -53,7 +53,7 @@ class Folder(SiteTrying):
         self.says(self.site('run', self.path('nowhere')), 3, 'nowhere')
         self.run_site()
 
-    def test_what_the_keeper_wrote_wrong_is_told(self) -> None:
+    def test_what_the_operator_wrote_wrong_is_told(self) -> None:
         wrong = {'users': [b'anna 1\n', b'1 anna\n1 lisa\n2 anna\n', b'4294967296 anna\n', b'-1 anna\n', b'1 nobody\n', b'', b'# none\n\n'],
                  'limits': [b'texts 1\n', b'', b'texts x\n'], 'accounts': [b'anna\n', b'anna a\nanna b\n', b'$STREAM\n', b'', b'\n']}
         self.drop('anna', 'it', LIST % b'anna')
@@ -123,7 +123,7 @@ class Folder(SiteTrying):
             self.says(self.site(command, self.folder), 3, 'accounts', 'line 4')
         self.assertEqual((self.waiting('hugo'), os.listdir(self.folder + '/taken')), (['it'], []))
 
-    def test_a_catalogue_that_is_cut_off_is_told_before_a_text_is_claimed(self) -> None:
+    def test_a_catalogue_that_is_cut_off_is_told_before_a_submission_is_claimed(self) -> None:
         self.drop('hugo', 'it', LIST % b'hugo')
         for content, told in ((CATALOGUE[:-1], 'line 4: the last line has no line end'), (CATALOGUE[:-3], 'line 4: the last line has no line end'),
                               (CATALOGUE[:-6], 'line 4: the file ends within a data set'), (b'', 'line 1: not $CATALOGUE')):
@@ -165,7 +165,7 @@ class Folder(SiteTrying):
             modes.append(sorted({name.rsplit('/', 1)[0]: mode for name, (_, mode, *_) in found.items()}.items()))
         self.assertEqual(modes, modes[:1] * 3)
 
-    def test_the_files_of_a_round_are_the_keepers_alone(self) -> None:
+    def test_the_files_of_a_round_are_the_operators_alone(self) -> None:
         self.drop('anna', 'it', LIST % b'anna')
         self.run_site()
         for name in os.listdir(self.folder + '/rounds'):

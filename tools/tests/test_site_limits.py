@@ -1,4 +1,4 @@
-"""Texts that take more memory than there is, and texts beyond the limits of their account."""
+"""Submissions that take more memory than there is, and submissions beyond the limits of their account."""
 from __future__ import annotations
 
 import os
@@ -23,7 +23,7 @@ class Memory(SiteTrying):
         done = self.short_of_memory()
         self.assertEqual((done.status, len(self.answers('lisa'))), (1, 1), done.err)
 
-    def test_a_text_without_memory_is_put_off_and_run_alone(self) -> None:
+    def test_a_submission_without_memory_is_deferred_and_run_alone(self) -> None:
         self.with_limits(bytes=10000000)
         big = b'$JOB lisa\nEND\n' + b'X\n' * 400000 + b'$EOJ\n'
         for name in ('big', 'later'):
@@ -32,8 +32,8 @@ class Memory(SiteTrying):
         self.drop('anna', 'it', LIST % b'anna')
         done = self.short_of_memory()
         self.assertEqual((done.status, done.out), (1, b'round 1: 2 run, 0 refused, 2 put off\n'), done.err)
-        put_off = {2: 'PUT OFF big\nOUT OF MEMORY\n', 3: 'PUT OFF later\nOUT OF MEMORY\n', 4: 'LIST lisa LOG\n first\nRECORDS 1\n'}
-        self.assertEqual((self.answers('lisa'), len(self.answers('anna'))), (put_off, 1))
+        deferred = {2: 'PUT OFF big\nOUT OF MEMORY\n', 3: 'PUT OFF later\nOUT OF MEMORY\n', 4: 'LIST lisa LOG\n first\nRECORDS 1\n'}
+        self.assertEqual((self.answers('lisa'), len(self.answers('anna'))), (deferred, 1))
         self.assertEqual(sorted(os.listdir(self.folder + '/taken')), ['lisa.00000002.alone', 'lisa.00000003.alone'])
         self.assertEqual(self.site('verify', self.folder, '1').status, 0)
         os.rename(self.folder + '/taken/lisa.00000003.alone', self.path('aside'))
@@ -45,7 +45,7 @@ class Memory(SiteTrying):
         self.assertEqual(self.site('run', self.folder).status, 0)
         self.assertEqual((self.answers('lisa')[3], os.listdir(self.folder + '/taken')), ('JOB 1 lisa\nEND NORMAL AFTER 0\n', []))
 
-    def test_an_audit_that_fits_no_disk_puts_its_text_off(self) -> None:
+    def test_an_audit_that_fits_no_disk_defers_its_submission(self) -> None:
         # Files have at most 100,000 bytes. Whoever writes more is told so, since the signal for it is not heeded.
         limits = dict(preexec_fn=lambda: resource.setrlimit(resource.RLIMIT_FSIZE, (100000, resource.RLIM_INFINITY)), restore_signals=False)
         reads = b"$JOB lisa ST=50000\n$UNIT 8 LOG\n INPUT('R',8)\nLOOP X = R :S(LOOP)\n K = LT(K,9000) K + 1 :F(END)\n REWIND(8) :(LOOP)\nEND\n$EOJ\n"
@@ -66,7 +66,7 @@ class Memory(SiteTrying):
 @unittest.skipUnless(os.path.exists(SITE), 'there is no site')
 class Limits(SiteTrying):
     def refused_at(self, limit: str, value: int, *texts: bytes) -> List[str]:
-        """The replies where this limit is so; the first text is within it."""
+        """The replies where this limit is so; the first submission is within it."""
         self.with_limits(**{limit: value})
         before = len(self.answers('anna'))
         for k, text in enumerate(texts):
@@ -91,7 +91,7 @@ class Limits(SiteTrying):
         self.run_site()
         self.assertEqual(self.of('catalogue'), b'$CATALOGUE 2\n')
 
-    def test_a_smaller_text_behind_one_that_breaks_a_limit_runs(self) -> None:
+    def test_a_smaller_submission_behind_one_that_breaks_a_limit_runs(self) -> None:
         job = b'$JOB anna ST=%d\nEND\n$EOJ\n'
         refused = self.refused_at('statements', 10, job % 6, job % 5, job % 4)
         self.assertEqual(refused, ['REFUSED 1\nLIMIT statements: 11 of 10\n'])

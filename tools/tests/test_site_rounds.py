@@ -58,7 +58,7 @@ class Rounds(SiteTrying):
             'JOB 1 hugo LOADED', 'JOB 1 hugo ASKED 1 WRITE 6 .SPOOL 0 DONE', 'JOB 1 hugo ENDED NORMAL AFTER 1', 'COMMAND 0 anna LIST LOG RECORDS 1 BY user::', 'RUN 0 .NONE STOPPED'])
         self.assertFalse([name for name in os.listdir(self.folder + '/rounds') if name.endswith('.tmp')])
 
-    def test_no_text_can_end_the_round_or_speak_for_another(self) -> None:
+    def test_no_submission_can_end_the_round_or_speak_for_another(self) -> None:
         self.drop('anna', 'a', b'$STOP\n')
         self.drop('hugo', 'b', b'$LIST hugo LOG\n  $LIST lisa LOG\n')
         self.drop('lisa', 'c', LIST % b'lisa')
@@ -83,7 +83,7 @@ class Rounds(SiteTrying):
         self.run_site(status=1)
         self.assertEqual(list(self.answers('anna').values()), ['REFUSED text-%d\n%s' % one for one in enumerate(self.REFUSALS.values())])
 
-    def test_a_user_can_ask_before_he_drops_a_text(self) -> None:
+    def test_a_user_can_ask_before_he_drops_a_submission(self) -> None:
         for k, (text, wanted) in enumerate(self.REFUSALS.items()):
             done = self.site('check', self.write('text-%d' % k, text), '--account', 'anna')
             reply = 'REFUSED text-%d\n%s' % (k, wanted)

@@ -10,7 +10,7 @@ import shutil
 import unittest
 from typing import Any, Dict, Iterable, List, Set, Tuple
 from trying import Done, TOP, Trying, run
-from sites import KeeperTrying, LIST, SITE
+from sites import OperatorTrying, LIST, SITE
 
 UNIT = os.path.join(TOP, 'examples', 'site', 'snomon-site.service')
 MOST_EXPOSED = 1.0  # of 10
@@ -76,7 +76,7 @@ class Unit(Trying):
 
 @unittest.skipUnless(os.path.exists(SITE), 'there is no site')
 @unittest.skipUnless(os.geteuid() == 0, 'an operator and two users can only be tried as root')
-class Round(KeeperTrying):
+class Round(OperatorTrying):
     """Rounds as the unit has them run: of an operator who is not root, and under the unit's mask."""
 
     def setUp(self) -> None:
@@ -86,7 +86,7 @@ class Round(KeeperTrying):
 
     def ran(self, words: Iterable[str] = (), **more: Any) -> None:
         """Both users read what they got, and nobody else does."""
-        done = run([*words, self.program, 'run', self.folder], cwd='/', user=self.keeper, group=self.keeper, extra_groups=[], umask=0o077, **more)
+        done = run([*words, self.program, 'run', self.folder], cwd='/', user=self.operator, group=self.operator, extra_groups=[], umask=0o077, **more)
         self.assertEqual((done.status, done.out), (1, b'round 1: 1 run, 1 refused\n'), done.err)
         for account, answer in (('anna', '00000001.out'), ('lisa', '00000002.out')):
             path = f'{self.folder}/out/{account}/{answer}'

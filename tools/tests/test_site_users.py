@@ -1,4 +1,4 @@
-"""Sites of users of the system, with keepers who are root and who are not."""
+"""Sites of users of the system, with operators who are root and who are not."""
 from __future__ import annotations
 
 import os
@@ -6,7 +6,7 @@ import stat
 import threading
 import unittest
 from trying import run
-from sites import ACCOUNTS, KeeperTrying, LIST, NOBODY, OTHER, SITE, STRANGER, SiteTrying, UsersTrying
+from sites import ACCOUNTS, OperatorTrying, LIST, NOBODY, OTHER, SITE, STRANGER, SiteTrying, UsersTrying
 import random_site
 
 
@@ -104,8 +104,8 @@ class Users(UsersTrying):
 
 
 @unittest.skipUnless(os.path.exists(SITE), 'there is no site')
-@unittest.skipUnless(os.geteuid() == 0, 'a keeper and two users can only be tried as root')
-class Keeper(KeeperTrying, Users):
+@unittest.skipUnless(os.geteuid() == 0, 'an operator and two users can only be tried as root')
+class Operator(OperatorTrying, Users):
     """These tests are those of Users, and some more."""
 
     def test_each_reads_his_own_answers_and_no_others(self) -> None:
@@ -118,9 +118,9 @@ class Keeper(KeeperTrying, Users):
             self.assertNotEqual(self.as_user(account, 'cat "$1"', path), 0)
         self.assertNotEqual(self.as_user('anna', 'echo >>"$1"', mine), 0)
         seen = os.stat(mine)
-        self.assertEqual((seen.st_uid, seen.st_gid, stat.S_IMODE(seen.st_mode)), (self.keeper, NOBODY, 0o640))
+        self.assertEqual((seen.st_uid, seen.st_gid, stat.S_IMODE(seen.st_mode)), (self.operator, NOBODY, 0o640))
 
-    def test_a_file_that_the_keeper_may_not_read_is_told(self) -> None:
+    def test_a_file_that_the_operator_may_not_read_is_told(self) -> None:
         self.drops('anna', 'it', LIST % b'anna')
         os.chmod(self.box('anna', 'it'), 0o600)
         self.run_site(status=1)
@@ -160,11 +160,11 @@ class Keeper(KeeperTrying, Users):
         """As a user who is not root: all is his."""
         accounts = self.write('the-accounts', ACCOUNTS)
         os.mkdir(self.path('his'))
-        os.chown(self.path('his'), self.keeper, self.keeper)
+        os.chown(self.path('his'), self.operator, self.operator)
         done = self.site('init', self.path('his/new'), '--accounts', accounts, '--demonstration')
         self.assertEqual(done.status, 0, done.err)
         self.assertEqual({os.stat(os.path.join(place, name)).st_uid for place, _, files in os.walk(self.path('his/new')) for name in [''] + files},
-                         {self.keeper})
+                         {self.operator})
 
 
 @unittest.skipUnless(os.path.exists(SITE), 'there is no site')

@@ -1,4 +1,4 @@
-"""A keeper's files that are wrong, and the numbers of rounds and texts, which are never given twice."""
+"""An operator's files that are wrong, and the numbers of rounds and submissions, which are never given twice."""
 from __future__ import annotations
 
 import os
@@ -7,8 +7,8 @@ from sites import ACCOUNTS, HELLO, KEPT, Kept, LISTED, OTHER, SITE, STRANGER
 
 
 @unittest.skipUnless(os.path.exists(SITE), 'there is no site')
-class KeepersFiles(Kept):
-    """What the keeper wrote wrong is told by file and line, by `run` and `status` alike, before anything is claimed."""
+class OperatorsFiles(Kept):
+    """What the operator wrote wrong is told by file and line, by `run` and `status` alike, before anything is claimed."""
 
     def test_a_user_of_an_account_that_does_not_exist_is_told(self) -> None:
         self.drop('hugo', 'it', b'$LIST hugo LOG\n')
@@ -37,7 +37,7 @@ class KeepersFiles(Kept):
             self.put(name, before)
         self.run_site()
 
-    def test_a_lock_that_is_not_the_keepers_own_file_is_refused(self) -> None:
+    def test_a_lock_that_is_not_the_operators_own_file_is_refused(self) -> None:
         self.drop('hugo', 'it', b'$LIST hugo LOG\n')
         lock, elsewhere = self.folder + '/lock', self.path('elsewhere')
         for mode in (0o666, 0o620, 0o602):
@@ -72,7 +72,7 @@ class Numbers(Kept):
         self.assertEqual(list(self.first), [1])
 
     def next_round(self, n: int, number: int) -> None:
-        """The next round is the one of this number, and so is its text's file."""
+        """The next round is the one of this number, and so is its submission's file."""
         before = self.answers('lisa')
         self.drop('lisa', 'it', b'$LIST lisa LOG\n')
         done = self.site('run', self.folder)
