@@ -2,11 +2,10 @@
 use Rattle.std.proofs.Common.{◌≡◌, ℕ, List, [], ◌∷◌, refl}
 use Rattle.std.specs.Prelude.{true, false, Some}
 use Rattle.sno_lexer.specs.declared.token.Mark.TheVariants as mark
-use Rattle.sno_lexer.specs.declared.token.Part.TheVariants.{Equals}
 use Rattle.sno_lexer.specs.declared.token.TokenKind.TheVariants as token
 use Rattle.sno_expression.specs.declared.tree.BinaryOperator.TheVariants as operator
 use Rattle.sno_expression.specs.declared.tree.UnaryOperator.TheVariants as unary
-use Rattle.sno_expression.specs.Expressions.{Identifier, Keyword, Unevaluated, Group, Call, Unary, Binary, NoArguments, Omitted, Argument}
+use Rattle.sno_expression.specs.Expressions.{Identifier, Group, Call, Unary, Binary, NoArguments, Omitted, Argument}
 use Rattle.sno_expression.specs.Lacking.{lacking}
 use Rattle.sno_expression.specs.Spelling.{spaced}
 use Rattle.sno_expression.specs.inner.Telling.{Tells, telling}
@@ -40,23 +39,11 @@ pattern : telling false (spaced true false (token.Identifier A) ∷ spaced true 
     (Binary operator.Immediate (Binary operator.Conditional (Identifier C) (Identifier A)) (Identifier B)))) [] 0 false
 pattern = refl
 
--- -A ** B is the power of -A
-negative : telling false (spaced true false (token.Mark mark.Minus) ∷ spaced false false (token.Identifier A)
-    ∷ spaced true true (token.Mark mark.Power) ∷ spaced true false (token.Identifier B) ∷ [])
-    ≡ Tells (Some (Binary operator.Power (Unary unary.Minus (Identifier A)) (Identifier B))) [] 0 false
-negative = refl
-
 -- A(B,,C), and A()
 call : telling false (spaced true false (token.Identifier A) ∷ spaced false false token.Open ∷ spaced false false (token.Identifier B)
     ∷ spaced false false token.Comma ∷ spaced false false token.Comma ∷ spaced false false (token.Identifier C) ∷ spaced false false token.Close ∷ [])
     ≡ Tells (Some (Call A (Argument (Omitted (Argument NoArguments (Identifier B))) (Identifier C)))) [] 0 false
 call = refl
-
--- &A *B
-words : telling false (spaced true false (token.Mark mark.Ampersand) ∷ spaced false false (token.Identifier A)
-    ∷ spaced true false (token.Mark mark.Star) ∷ spaced false false (token.Identifier B) ∷ [])
-    ≡ Tells (Some (Binary operator.Concatenation (Keyword A) (Unevaluated B))) [] 0 false
-words = refl
 
 -- A (B) C as a subject is A alone, and A(B) C is the call
 alone : telling true (spaced true false (token.Identifier A) ∷ spaced true false token.Open ∷ spaced false false (token.Identifier B)
@@ -64,11 +51,6 @@ alone : telling true (spaced true false (token.Identifier A) ∷ spaced true fal
     ≡ Tells (Some (Identifier A)) (spaced true false token.Open ∷ spaced false false (token.Identifier B) ∷ spaced false false token.Close
     ∷ spaced true false (token.Identifier C) ∷ []) 0 true
 alone = refl
-
--- A = B stops before the sign
-part : telling false (spaced true false (token.Identifier A) ∷ spaced true true (token.Part Equals) ∷ spaced true false (token.Identifier B) ∷ [])
-    ≡ Tells (Some (Identifier A)) (spaced true true (token.Part Equals) ∷ spaced true false (token.Identifier B) ∷ []) 0 false
-part = refl
 
 -- A+B: the tree before the sign, which would go on with other blanks
 touching : telling false (spaced true false (token.Identifier A) ∷ spaced false false (token.Mark mark.Plus)

@@ -1,24 +1,22 @@
 -- The first operand, where one token tells it: what is told of it alone, and where the reading goes on behind it.
-use Rattle.std.proofs.Common.{◌≡◌, ℕ, zero, suc, ◌+◌, length, List, [], ◌∷◌, drop, refl, sym, ap, ap₂, ◌∙◌, subst, add-one}
+use Rattle.std.proofs.Common.{arith, ◌≡◌, ℕ, ◌+◌, zero, suc, ◌-◌, ◌<◌, ◌≤◌, take, drop, length, List, [], ◌∷◌, refl, sym, ap, ap₂, ◌∙◌, subst}
+use Rattle.std.proofs.lemmas.List.{length-drop, take_rest}
 use Rattle.std.specs.Prelude.{Bool, true, false, not, ◌&&◌, ◌||◌, Option, Some, None, if◌then◌else◌}
 use Rattle.sno_lexer.specs.declared.token.Token.{Token}
 use Rattle.sno_lexer.specs.declared.token.TokenKind.{TokenKind}
 use Rattle.sno_lexer.specs.declared.token.TokenKind.TheVariants as token
+use Rattle.sno_expression.specs.declared.tree.BinaryOperator.{BinaryOperator}
+use Rattle.sno_expression.specs.declared.tree.BinaryOperator.TheVariants.{Concatenation}
 use Rattle.sno_expression.specs.declared.tree.Expression.{Expression as AnExpression}
-use Rattle.sno_expression.specs.declared.tree.Expression.TheVariants as tree
-use Rattle.sno_expression.specs.declared.tree.Operands.{Operands'}
-use Rattle.sno_expression.specs.Expressions.{Expression, Identifier, Constant, IsOperand}
+use Rattle.sno_expression.specs.Marks.{operator_of, needs_variable}
+use Rattle.sno_expression.specs.Spelling.{spaced}
+use Rattle.sno_lexer.specs.declared.token.Mark.{Mark}
+use Rattle.sno_expression.specs.Expressions.{Expression, Identifier, Constant}
 use Rattle.sno_expression.specs.Abstraction.{expression_of}
-use Rattle.sno_expression.specs.inner.Reading.{State, At, Stack, Bottom, Hole, Begin, Named, Whole, Due, fill, begin, first, after, opened, read, ended, result, parens, inner_of, stops, opens_bracket, variable_due, start}
-use Rattle.sno_expression.specs.inner.Telling.{follows, lack_at, fits_at, Told, Tells, then_tell, told, telling}
-use Rattle.sno_expression.specs.inner.First.{is_apart, plain, first_operand}
-use Rattle.sno_expression.specs.inner.Spines.{is_element}
-use Rattle.sno_expression.specs.inner.Told.{whole_of}
+use Rattle.sno_expression.specs.inner.Reading.{State, At, Stack, Bottom, Hole, Begin, After, Named, Whole, Due, push, fill, joined, begin, first, after, opened, read, ended, result, parens, inner_of, stops, opens_bracket, variable_due, start}
+use Rattle.sno_expression.specs.inner.Telling.{begins_variable, follows, lack_at, fits_at, Told, Tells, then_tell, told, telling}
+use Rattle.sno_expression.specs.inner.First.{is_apart, plain, Joint, Joins, operand_behind, marked_operand, joined_by, next_operand}
 use Rattle.sno_expression.proofs.Loop.{with_none}
-
-element_is : (t : AnExpression) (x : Expression) → expression_of t ≡ x → IsOperand x → is_element t ≡ true
-element_is (tree.Binary' b p (Operands' l n run r)) x e i = absurd (subst IsOperand (sym e) i)
-element_is _ x e i = refl
 
 touches_none : (b : Bool) (k : TokenKind) → opens_bracket false k ≡ false → opens_bracket b k ≡ false
 touches_none b token.Open e = cc
@@ -83,36 +81,89 @@ first_begins a _ ts x e = refl
 first_read : (alone : Bool) (t : Token) (ts : List Token) (x : Expression) → plain t.kind ts ≡ Some x → telling alone (t ∷ ts) ≡ told alone (At Bottom (Whole x)) ts
 first_read alone t ts x e = begun alone start Bottom Begin t ts x (first_begins t.blank_after t.kind ts x e) refl e
 
-plain_operand : (k : TokenKind) (ts : List Token) (x : Expression) → plain k ts ≡ Some x → IsOperand x
-plain_operand (token.Identifier n) ts x e = at (is_apart ts) e
-  where
-    at : (b : Bool) → (if b then Some (Identifier n) else None) ≡ Some x → IsOperand x
-    at true d = let c : Identifier n ≡ x = cc in subst IsOperand c tt
-    at false d = cc
-plain_operand (token.Constant c) ts x e = let d : Constant c ≡ x = cc in subst IsOperand d tt
-plain_operand _ ts x e = cc
-
--- ALL TOKENS
-
-drop_one : (i : ℕ) (ts : List Token) → drop 1 (drop i ts) ≡ drop (suc i) ts
-drop_one zero ts = refl
-drop_one (suc i) [] = refl
-drop_one (suc i) (t ∷ ts) = drop_one i ts
-
-first_told : (alone : Bool) (ts : List Token) (x : Expression) → first_operand ts ≡ Some x → telling alone ts ≡ told alone (At Bottom (Whole x)) (drop 1 ts)
-first_told alone [] x e = cc
-first_told alone (t ∷ ts) x e = first_read alone t ts x e
-
-pub first_from : (alone : Bool) (ts : List Token) (i : ℕ) (t : AnExpression) → Some (expression_of t) ≡ first_operand (drop i ts)
-    → told alone (whole_of t) (drop (i + 1) ts) ≡ telling alone (drop i ts)
-first_from alone ts i t e =
-    rw add-one (sym (first_told alone (drop i ts) (expression_of t) (sym e) ∙ ap (told alone (At Bottom (Whole (expression_of t)))) (drop_one i ts)))
-
-pub first_element : (ts : List Token) (t : AnExpression) → Some (expression_of t) ≡ first_operand ts → is_element t ≡ true
-first_element [] t e = cc
-first_element (u ∷ ts) t e = element_is t (expression_of t) refl (plain_operand u.kind ts (expression_of t) (sym e))
+-- what a first token tells of all
+pub first_told : (alone : Bool) (u : Token) (ts : List Token) (t : AnExpression) → Some (expression_of t) ≡ plain u.kind ts → told alone (At Bottom (Whole (expression_of t))) ts ≡ telling alone (u ∷ ts)
+first_told alone u ts t e = sym (first_read alone u ts (expression_of t) (sym e))
 
 -- alone it is all
 pub alone_told : (ts : List Token) (x : Expression) → Tells (Some x) ts 0 false ≡ told true (At Bottom (Whole x)) ts
 alone_told [] x = refl
 alone_told (t ∷ ts) x = refl
+
+-- THE OPERANDS BEHIND IT
+
+-- what an operand that comes next tells of all
+abbrev pub GoesOn : Expression → List Token → Joint → Type 0
+GoesOn e ts (Joins o x n) = (told false (At Bottom (Whole e)) ts ≡ told false (At Bottom (Whole (push o x e))) (drop n ts)) × (0 < n) × (n ≤ length ts)
+
+operand_goes : (e : Expression) (o : BinaryOperator) (n : ℕ) (q : Option Expression) (ts : List Token) (j : Joint) → operand_behind o n q ≡ Some j
+    → ((x : Expression) → q ≡ Some x → GoesOn e ts (Joins o x n)) → GoesOn e ts j
+operand_goes e o n None ts j d on = cc
+operand_goes e o n (Some x) ts j d on = let c : Joins o x n ≡ j = cc in subst (GoesOn e ts) c (on x refl)
+
+misfit_none : (b c : Bool) → (not b || c) ≡ false → (b ≡ true) × (c ≡ false)
+misfit_none true c e = (refl, e)
+misfit_none false c e = cc
+
+mark_goes : (e : Expression) (m : Mark) (o : BinaryOperator) (v : Token) (ts : List Token) (x : Expression) → operator_of m ≡ Some o
+    → (not v.blank_before || (needs_variable o && not (begins_variable v.kind))) ≡ false → plain v.kind ts ≡ Some x
+    → GoesOn e (spaced true true (token.Mark m) ∷ v ∷ ts) (Joins o x 2)
+mark_goes e m o v ts x d f p =
+    let g = misfit_none v.blank_before (needs_variable o && not (begins_variable v.kind)) f in (
+      ap (λ (q : Option BinaryOperator). then_tell (joined Bottom e q) (Tells (Some e) (spaced true true (token.Mark m) ∷ v ∷ ts) 0 true) 0 (λ s. told false s (v ∷ ts))) d
+          ∙ (with_none (told false (At Bottom (Due (After e o))) (v ∷ ts))
+          ∙ begun false (At Bottom (Due (After e o))) Bottom (After e o) v ts x
+          (ap (λ (b : Bool). if b then begin Bottom (After e o) v.blank_after v.kind else None) g.0)
+          (ap (λ (b : Bool). if b then length (v ∷ ts) else 0) g.1) p),
+      omega arith,
+      omega arith,
+    )
+
+marked_goes : (e : Expression) (m : Mark) (q : Option BinaryOperator) (ts : List Token) (j : Joint) → operator_of m ≡ q → marked_operand q ts ≡ Some j
+    → GoesOn e (spaced true true (token.Mark m) ∷ ts) j
+marked_goes e m None ts j d n = cc
+marked_goes e m (Some o) [] j d n = cc
+marked_goes e m (Some o) (v ∷ ts) j d n = at (not v.blank_before || (needs_variable o && not (begins_variable v.kind))) refl n
+  where
+    at : (c : Bool) → (not v.blank_before || (needs_variable o && not (begins_variable v.kind))) ≡ c → (if c then None else operand_behind o 2 (plain v.kind ts)) ≡ Some j
+        → GoesOn e (spaced true true (token.Mark m) ∷ v ∷ ts) j
+    at true f h = cc
+    at false f h = operand_goes e o 2 (plain v.kind ts) (spaced true true (token.Mark m) ∷ v ∷ ts) j h (λ x p. mark_goes e m o v ts x d f p)
+
+bare_goes : (e : Expression) (a : Bool) (k : TokenKind) (ts : List Token) (x : Expression) → plain k ts ≡ Some x → GoesOn e (spaced true a k ∷ ts) (Joins Concatenation x 1)
+bare_goes e a (token.Identifier n) ts x p = (begun false (At Bottom (Whole e)) Bottom (After e Concatenation) (spaced true a (token.Identifier n)) ts x refl refl p, omega arith, omega arith)
+bare_goes e a (token.Constant c) ts x p = (begun false (At Bottom (Whole e)) Bottom (After e Concatenation) (spaced true a (token.Constant c)) ts x refl refl p, omega arith, omega arith)
+bare_goes e a _ ts x p = cc
+
+blank_goes : (e : Expression) (a : Bool) (k : TokenKind) (ts : List Token) (j : Joint) → joined_by a k ts ≡ Some j → GoesOn e (spaced true a k ∷ ts) j
+blank_goes e true (token.Mark m) ts j d = marked_goes e m (operator_of m) ts j refl d
+blank_goes e false (token.Mark m) ts j d = cc
+blank_goes e a k ts j d = operand_goes e Concatenation 1 (plain k ts) (spaced true a k ∷ ts) j d (λ x p. bare_goes e a k ts x p)
+
+pub goes_on : (e : Expression) (ts : List Token) (j : Joint) → next_operand ts ≡ Some j → GoesOn e ts j
+goes_on e [] j d = cc
+goes_on e (t ∷ ts) j d = at t.blank_before t.blank_after t.kind d
+  where
+    at : (b a : Bool) (k : TokenKind) → (if not b then None else joined_by a k ts) ≡ Some j → GoesOn e (spaced b a k ∷ ts) j
+    at true a k h = blank_goes e a k ts j h
+    at false a k h = cc
+
+drop_none : (n : ℕ) (ts : List Token) → ts ≡ [] → drop n ts ≡ ts
+drop_none zero ts e = refl
+drop_none (suc n) [] e = refl
+drop_none (suc n) (t ∷ ts) e = cc
+
+drop_on : (i n : ℕ) (ts : List Token) → drop n (drop i ts) ≡ drop (i + n) ts
+drop_on zero n ts = ap (λ (k : ℕ). drop k ts) (omega arith)
+drop_on (suc i) n [] = drop_none n [] refl ∙ sym (drop_none (suc i + n) [] refl)
+drop_on (suc i) n (t ∷ ts) = let e : suc (i + n) ≡ suc i + n = omega arith in drop_on i n ts ∙ ap (λ (k : ℕ). drop k (t ∷ ts)) e
+
+-- from a place on
+pub goes_from : (e : Expression) (ts : List Token) (i : ℕ) (o : BinaryOperator) (x : Expression) (n : ℕ)
+    → Some (Joins o x n) ≡ next_operand (take (length ts - i) (drop i ts)) → i ≤ length ts
+    → (told false (At Bottom (Whole e)) (drop i ts) ≡ told false (At Bottom (Whole (push o x e))) (drop (i + n) ts)) × (0 < n) × (i + n ≤ length ts)
+goes_from e ts i o x n d w =
+    let g = goes_on e (drop i ts) (Joins o x n) (sym (d ∙ ap next_operand (take_rest ts i))) in
+    let l = length-drop i ts in
+    let a = g.2 in
+    (g.0 ∙ ap (told false (At Bottom (Whole (push o x e)))) (drop_on i n ts), g.1, omega (arith, l, a, w))

@@ -9,6 +9,5 @@ pub mod Grammar
 pub mod Loop
 mod Examples
 pub mod Runs
-pub mod Following
 pub mod First
 pub mod Telling

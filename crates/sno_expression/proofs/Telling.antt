@@ -108,7 +108,7 @@ taken_fits alone (At st (Whole t)) b a k v e = after_fits alone st t b a k v e
 abbrev pub IsTaken : Bool → State → TokenKind → Type 0
 IsTaken alone s k = (b : Bool) × (a : Bool) × (v : State) × (read alone s (spaced b a k) ≡ Some v)
 
-fits_begun : (st : Stack) (h : Hole) (a : Bool) (k : TokenKind) → begins a k ≡ true → (v : State) × (begin st h a k ≡ Some v)
+pub fits_begun : (st : Stack) (h : Hole) (a : Bool) (k : TokenKind) → begins a k ≡ true → (v : State) × (begin st h a k ≡ Some v)
 fits_begun st h a (token.Identifier n) e = (At st (Named h n), refl)
 fits_begun st h a (token.Constant c) e = (At st (Whole (fill h (Constant c))), refl)
 fits_begun st h a token.Open e = (At (InGroup h st) (Due Begin), refl)

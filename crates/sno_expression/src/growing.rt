@@ -1,8 +1,9 @@
 //! Trees that grow while they are read.
-ghost use Rattle.std.specs.Prelude.{◌≡◌, IfOk};
+ghost use Rattle.std.specs.Prelude.{◌≡◌, true, IfOk};
 ghost use Rattle.sno_expression.specs.Expressions as expressions;
 ghost use Rattle.sno_expression.specs.Abstraction.{expression_of, arguments_of};
 ghost use Rattle.sno_expression.specs.inner.Reading.{with_prefix};
+ghost use Rattle.sno_expression.specs.inner.Spines.{is_element};
 
 use crate::tree::{Arguments, BinaryOperator, Expression, IdentifierPrefix, Operands};
 use sno_lexer::{Characters, Constant};
@@ -59,7 +60,8 @@ pub(crate) fn omit_argument(alloc: Global, arguments: Arguments) -> Result<Argum
 
 // The tree of a constant.
 pub(crate) fn tree_of(alloc: Global, constant: &Constant) -> Result<Expression, AllocError>
-    ensures { IfOk result (λ t. expression_of t ≡ expressions.Constant constant.now) }
+    ensures tree { IfOk result (λ t. expression_of t ≡ expressions.Constant constant.now) }
+    ensures element { IfOk result (λ t. is_element t ≡ true) }
 {
     match constant {
         Constant::Literal(text) => {

@@ -5,20 +5,20 @@ ghost use Rattle.sno_expression.specs.Expressions as expressions;
 ghost use Rattle.sno_expression.specs.inner.Spines.{is_element};
 ghost use Rattle.sno_expression.specs.inner.Reading.{fill, prefixed, begin, close, close_angle, comma, first, go_on, closed, after, due, omitted, omitted_last, after_prefix, named, read, ended, result as result_of, inner_of, parens, position, variable_due};
 ghost use Rattle.sno_expression.specs.inner.Telling.{told, telling, Tells};
-ghost use Rattle.sno_expression.specs.inner.First.{is_apart, plain, first_operand};
+ghost use Rattle.sno_expression.specs.inner.First.{is_apart, plain, operand_behind, marked_operand, next_operand};
 ghost use Rattle.sno_expression.specs.inner.Reading as states;
 ghost use Rattle.sno_expression.specs.Abstraction.{expression_of, arguments_of, expressions_of};
-ghost use Rattle.sno_expression.specs.inner.Told.{spine_tree, hole_of, stack_of, spot_of, state_of, stepped, step_of, Next, End, told_of, whole_of};
+ghost use Rattle.sno_expression.specs.inner.Told.{spine_tree, hole_of, stack_of, spot_of, state_of, stepped, step_of, Next, End, joint_of};
 
 use crate::growing::{add_argument, omit_argument, tree_of, with_prefix};
-use crate::position::{Paren, Position, fits, lack, most, opens_bracket, stops};
-use crate::pushing::{closed as closed_tree, goes_under, grow};
-use crate::spine::Spine;
+use crate::position::{Paren, Position, begins_variable, fits, lack, most, opens_bracket, stops};
+use crate::pushing::{closed as closed_tree, extend, grow};
+use crate::spine::{Plain, Spine};
 use crate::tree::{
-    Arguments, BinaryOperator, Call, Expression, IdentifierPrefix, Pending, Prefix, TableItem,
+    Arguments, BinaryOperator, Call, Expression, IdentifierPrefix, Prefix, TableItem,
     UnaryOperator, needs_variable, operand_is_variable, operator_of, prefix_of,
 };
-use sno_lexer::{Characters, Constant, Mark, Token, TokenKind, Word};
+use sno_lexer::{Characters, Mark, Token, TokenKind};
 use std::alloc::{AllocError, Global};
 
 /// What waits for an operand.
@@ -74,25 +74,29 @@ pub(crate) enum Step {
     End(Option<Expression>),
 }
 
-/// How far a run of tokens has led.
+/// How far plain operands have led.
 #[derive(Drop)]
-pub(crate) struct Run {
-    state: State,
-    /// The index of the first token that was not taken.
-    next: usize,
+pub(crate) struct Run<'a, 't> {
+    spine: Spine,
+    rest: &'a [Token<'t>],
 }
 
-/// An expression that was read.
-#[derive(Drop)]
-pub struct Found {
-    /// The tree, where one was complete.
-    pub tree: Option<Expression>,
-    /// The index of the first token that was not taken, or of the end.
-    pub next: usize,
+/// The tokens at which an expression ends.
+#[derive(Clone, Copy)]
+pub struct Rest<'a, 't> {
+    pub tokens: &'a [Token<'t>],
     /// How many tokens there are from the leftmost place on that lacks a variable; 0 where none does.
     pub lacking: usize,
-    /// Whether the token that was not taken would be, with other blanks round it.
+    /// Whether the first would go on with what stands before it, with other blanks round it.
     pub blank: bool,
+}
+
+/// What was read as an expression.
+#[derive(Drop)]
+pub struct Found<'a, 't> {
+    /// The tree, where one was complete.
+    pub tree: Option<Expression>,
+    pub rest: Rest<'a, 't>,
 }
 
 fn fill(alloc: Global, hole: Hole, operand: Expression) -> Result<Spine, AllocError>
@@ -222,11 +226,7 @@ fn begin(
                 spot: Spot::Due(Hole::Begin),
             }))
         }
-        TokenKind::Close
-        | TokenKind::OpenAngle
-        | TokenKind::CloseAngle
-        | TokenKind::Comma
-        | TokenKind::Part(_) => Ok(Step::End(None)),
+        _ => Ok(Step::End(None)),
     }
 }
 
@@ -359,13 +359,7 @@ fn first(alloc: Global, stack: Stack, after: bool, kind: &TokenKind) -> Result<S
     match kind {
         TokenKind::Comma => empty_before_comma(alloc, stack),
         TokenKind::Close => empty_at_end(alloc, stack),
-        TokenKind::Identifier(_)
-        | TokenKind::Constant(_)
-        | TokenKind::Mark(_)
-        | TokenKind::Open
-        | TokenKind::OpenAngle
-        | TokenKind::CloseAngle
-        | TokenKind::Part(_) => begin(alloc, stack, Hole::Begin, after, kind),
+        _ => begin(alloc, stack, Hole::Begin, after, kind),
     }
 }
 
@@ -438,12 +432,7 @@ fn touch(
         TokenKind::Close => close(alloc, stack, spine),
         TokenKind::Comma => comma(alloc, stack, spine),
         TokenKind::CloseAngle => close_angle(alloc, stack, spine),
-        TokenKind::Identifier(_)
-        | TokenKind::Constant(_)
-        | TokenKind::Mark(_)
-        | TokenKind::Open
-        | TokenKind::OpenAngle
-        | TokenKind::Part(_) => stop(alloc, stack, spine),
+        _ => stop(alloc, stack, spine),
     }
 }
 
@@ -522,24 +511,18 @@ fn due(alloc: Global, stack: Stack, hole: Hole, token: &Token) -> Result<Step, A
     match hole {
         Hole::Begin => first(alloc, stack, after, &token.kind),
         Hole::After(spine, operator) => {
-            if token.blank_before {
-                begin(
-                    alloc,
-                    stack,
-                    Hole::After(spine, operator),
-                    after,
-                    &token.kind,
-                )
-            } else {
-                Ok(Step::End(None))
+            if !token.blank_before {
+                return Ok(Step::End(None));
             }
+            let hole = Hole::After(spine, operator);
+            begin(alloc, stack, hole, after, &token.kind)
         }
         Hole::Under(unary, rest) => {
             if token.blank_before {
-                Ok(Step::End(None))
-            } else {
-                begin(alloc, stack, Hole::Under(unary, rest), after, &token.kind)
+                return Ok(Step::End(None));
             }
+            let hole = Hole::Under(unary, rest);
+            begin(alloc, stack, hole, after, &token.kind)
         }
     }
 }
@@ -564,14 +547,7 @@ fn after_prefix(
                 whole(alloc, stack, hole, with_prefix(prefix, name))
             }
         }
-        TokenKind::Constant(_)
-        | TokenKind::Mark(_)
-        | TokenKind::Open
-        | TokenKind::Close
-        | TokenKind::OpenAngle
-        | TokenKind::CloseAngle
-        | TokenKind::Comma
-        | TokenKind::Part(_) => Ok(Step::End(None)),
+        _ => Ok(Step::End(None)),
     }
 }
 
@@ -622,126 +598,6 @@ fn read(alloc: Global, alone: bool, state: State, token: &Token) -> Result<Step,
     }
 }
 
-// The name of a token that stands behind a blank.
-#[inline(always)]
-fn name_behind_blank<'a, 'b>(token: &'a Token<'b>) -> Option<&'a Word<'b>>
-    ensures { IfSome result (λ name. (token.now.blank_before ≡ true) × (token.now.kind ≡ TokenKind.Identifier name.now)) }
-{
-    match &token.kind {
-        TokenKind::Identifier(name) => { if token.blank_before { Some(name) } else { None } }
-        _ => None,
-    }
-}
-
-// Whether two names come first, each behind a blank.
-#[inline(always)]
-fn names_stand(tokens: &[Token]) -> bool {
-    match tokens {
-        [first, second, ..] => {
-            name_behind_blank(first).is_some() && name_behind_blank(second).is_some()
-        }
-        _ => false,
-    }
-}
-
-// Names that go on with a concatenation, each behind a blank: as many steps of `read`, but nothing is moved from step to step.
-#[inline(never)]
-fn names_follow(
-    alloc: Global,
-    alone: bool,
-    stack: Stack,
-    spine: Spine,
-    name: Characters,
-    tokens: &[Token],
-    from: usize,
-) -> Result<Run, AllocError>
-    requires taken { closed alone (stack_of stack) ≡ false }
-    requires begins { from ≤ length tokens.now }
-    ensures same { IfOk result (λ run. told alone (states.At (stack_of stack) (states.Named (states.After (spine_tree spine) BinaryOperator.Concatenation) name)) (drop from tokens.now) ≡ told alone (state_of run.state) (drop run.next tokens.now)) }
-    ensures onward { IfOk result (λ run. from ≤ run.next) }
-    ensures within { IfOk result (λ run. run.next ≤ length tokens.now) }
-{
-    let Spine { pending, last } = spine;
-    let mut waiting = pending;
-    let mut right = last;
-    let mut latest = name;
-    let mut at = from;
-    while at < tokens.len() && goes_under(BinaryOperator::Concatenation, waiting.as_slice()) {
-        match name_behind_blank(&tokens[at]) {
-            Some(word) => {
-                let following = word.characters(alloc)?;
-                waiting.push(Pending {
-                    left: right,
-                    operator: BinaryOperator::Concatenation,
-                })?;
-                right = Expression::Identifier(latest);
-                latest = following;
-                at += 1;
-            }
-            None => break,
-        }
-    }
-    let spine = Spine {
-        pending: waiting,
-        last: right,
-    };
-    let hole = Hole::After(spine, BinaryOperator::Concatenation);
-    Ok(Run {
-        state: State {
-            stack,
-            spot: Spot::Named(hole, latest),
-        },
-        next: at,
-    })
-}
-
-// Where a name stands behind a concatenation, and more may be taken, those that follow it are read in a run.
-#[inline(never)]
-fn run_on(
-    alloc: Global,
-    alone: bool,
-    state: State,
-    tokens: &[Token],
-    from: usize,
-) -> Result<Run, AllocError>
-    requires { from ≤ length tokens.now }
-    ensures same { IfOk result (λ run. told alone (state_of state) (drop from tokens.now) ≡ told alone (state_of run.state) (drop run.next tokens.now)) }
-    ensures onward { IfOk result (λ run. from ≤ run.next) }
-    ensures within { IfOk result (λ run. run.next ≤ length tokens.now) }
-{
-    if closed(alone, &state.stack) {
-        return Ok(Run { state, next: from });
-    }
-    let State { stack, spot } = state;
-    match spot {
-        Spot::Named(hole, name) => match hole {
-            Hole::After(spine, operator) => match operator {
-                BinaryOperator::Concatenation => {
-                    names_follow(alloc, alone, stack, spine, name, tokens, from)
-                }
-                operator => Ok(Run {
-                    state: State {
-                        stack,
-                        spot: Spot::Named(Hole::After(spine, operator), name),
-                    },
-                    next: from,
-                }),
-            },
-            hole => Ok(Run {
-                state: State {
-                    stack,
-                    spot: Spot::Named(hole, name),
-                },
-                next: from,
-            }),
-        },
-        spot => Ok(Run {
-            state: State { stack, spot },
-            next: from,
-        }),
-    }
-}
-
 // The tree at the end of the tokens, where one is complete.
 fn finish(alloc: Global, state: State) -> Result<Option<Expression>, AllocError>
     ensures { IfOk result (λ t. expressions_of t ≡ result_of (state_of state)) }
@@ -763,9 +619,9 @@ fn finish(alloc: Global, state: State) -> Result<Option<Expression>, AllocError>
 fn is_apart(tokens: &[Token]) -> bool
     ensures { result ≡ is_apart tokens.now }
 {
-    match tokens.split_first() {
-        None => true,
-        Some((token, _)) => !opens_bracket(false, &token.kind),
+    match tokens {
+        [] => true,
+        [token, ..] => !opens_bracket(false, &token.kind),
     }
 }
 
@@ -776,7 +632,8 @@ fn plain(
     kind: &TokenKind,
     behind: &[Token],
 ) -> Result<Option<Expression>, AllocError>
-    ensures { IfOk result (λ t. expressions_of t ≡ plain kind.now behind.now) }
+    ensures tree { IfOk result (λ t. expressions_of t ≡ plain kind.now behind.now) }
+    ensures element { IfOk result (λ t. IfSome t (λ x. is_element x ≡ true)) }
 {
     match kind {
         TokenKind::Identifier(name) => {
@@ -791,41 +648,135 @@ fn plain(
             let constant = tree_of(alloc, constant)?;
             Ok(Some(constant))
         }
-        TokenKind::Mark(_)
-        | TokenKind::Open
-        | TokenKind::Close
-        | TokenKind::OpenAngle
-        | TokenKind::CloseAngle
-        | TokenKind::Comma
-        | TokenKind::Part(_) => Ok(None),
+        _ => Ok(None),
     }
 }
 
-// The first operand, where one token tells it.
+// An operand behind the operator, where the token tells it.
 #[inline(always)]
-fn first_operand(alloc: Global, tokens: &[Token]) -> Result<Option<Expression>, AllocError>
-    ensures { IfOk result (λ t. expressions_of t ≡ first_operand tokens.now) }
+fn operand_behind(
+    alloc: Global,
+    operator: BinaryOperator,
+    taken: usize,
+    token: &Token,
+    behind: &[Token],
+) -> Result<Option<Plain>, AllocError>
+    ensures { IfOk result (λ next. joint_of next ≡ operand_behind operator taken (plain token.now.kind behind.now)) }
 {
-    match tokens.split_first() {
+    match plain(alloc, &token.kind, behind)? {
         None => Ok(None),
-        Some((token, behind)) => plain(alloc, &token.kind, behind),
+        Some(operand) => Ok(Some(Plain {
+            operator,
+            operand,
+            taken,
+        })),
     }
 }
 
-// Reads on, from the token at `from`.
-fn read_on(
+// Behind a mark that joins two operands.
+#[inline(always)]
+fn marked_operand(
+    alloc: Global,
+    operator: Option<BinaryOperator>,
+    tokens: &[Token],
+) -> Result<Option<Plain>, AllocError>
+    ensures { IfOk result (λ next. joint_of next ≡ marked_operand operator tokens.now) }
+{
+    match operator {
+        None => Ok(None),
+        Some(operator) => match tokens {
+            [] => Ok(None),
+            [token, behind @ ..] => {
+                let misfit = needs_variable(operator) && !begins_variable(&token.kind);
+                if !token.blank_before || misfit {
+                    return Ok(None);
+                }
+                operand_behind(alloc, operator, 2, token, behind)
+            }
+        },
+    }
+}
+
+// The next operand behind one, where a blank or a mark leads to it.
+#[inline(always)]
+fn next_operand(alloc: Global, tokens: &[Token]) -> Result<Option<Plain>, AllocError>
+    ensures { IfOk result (λ next. joint_of next ≡ next_operand tokens.now) }
+{
+    match tokens {
+        [] => Ok(None),
+        [token, behind @ ..] => {
+            if !token.blank_before {
+                return Ok(None);
+            }
+            match &token.kind {
+                TokenKind::Mark(mark) => {
+                    if !token.blank_after {
+                        return Ok(None);
+                    }
+                    marked_operand(alloc, operator_of(*mark), behind)
+                }
+                _ => operand_behind(alloc, BinaryOperator::Concatenation, 1, token, behind),
+            }
+        }
+    }
+}
+
+// Plain operands that go on behind the first: as many steps of `read`, but nothing is moved from step to step.
+#[inline(never)]
+fn operands_follow<'a, 't>(
+    alloc: Global,
+    first: Expression,
+    tokens: &'a [Token<'t>],
+) -> Result<Run<'a, 't>, AllocError>
+    requires { is_element first ≡ true }
+    ensures { IfOk result (λ run. told false (states.At states.Bottom (states.Whole (expression_of first))) tokens.now ≡ told false (states.At states.Bottom (states.Whole (spine_tree run.spine))) run.rest.now) }
+{
+    let mut pending = Vec::new(alloc);
+    let mut last = first;
+    let mut at = 0;
+    'operands: while let Some(next) = next_operand(alloc, &tokens[at..])? {
+        let grown = extend(alloc, next.operator, next.operand, pending, last)?;
+        pending = grown.pending;
+        last = grown.last;
+        at += next.taken;
+    }
+    let rest = &tokens[at..];
+    let spine = Spine { pending, last };
+    Ok(Run { spine, rest })
+}
+
+// An expression goes no further than up to some token.
+#[inline(always)]
+fn ended_at<'a, 't>(
+    tree: Option<Expression>,
+    tokens: &'a [Token<'t>],
+    at: usize,
+    lacking: usize,
+    blank: bool,
+) -> Found<'a, 't>
+    requires { at ≤ length tokens.now }
+    ensures { Tells (expressions_of result.tree) result.rest.tokens.now result.rest.lacking result.rest.blank ≡ Tells (expressions_of tree) (drop at tokens.now) lacking blank }
+{
+    let tokens = &tokens[at..];
+    let rest = Rest {
+        tokens,
+        lacking,
+        blank,
+    };
+    Found { tree, rest }
+}
+
+// Reads on, from some state.
+fn read_on<'a, 't>(
     alloc: Global,
     alone: bool,
     begun: State,
-    tokens: &[Token],
-    from: usize,
-) -> Result<Found, AllocError>
-    ensures reads { IfOk result (λ found. told_of found tokens.now ≡ told alone (state_of begun) (drop from tokens.now)) }
-    ensures within { IfOk result (λ found. found.next ≤ length tokens.now) }
-    ensures onward { IfOk result (λ found. from ≤ length tokens.now → from ≤ found.next) }
+    tokens: &'a [Token<'t>],
+) -> Result<Found<'a, 't>, AllocError>
+    ensures { IfOk result (λ found. told alone (state_of begun) tokens.now ≡ Tells (expressions_of found.tree) found.rest.tokens.now found.rest.lacking found.rest.blank) }
 {
     let mut state = begun;
-    let mut at = from;
+    let mut at = 0;
     let mut lacking = 0;
     while at < tokens.len() {
         let token = &tokens[at];
@@ -837,91 +788,64 @@ fn read_on(
                 let here = lack(position, token.blank_before, &token.kind, left);
                 lacking = most(lacking, here);
                 at += 1;
-                if names_stand(&tokens[at..]) {
-                    let run = run_on(alloc, alone, next, tokens, at)?;
-                    state = run.state;
-                    at = run.next;
-                } else {
-                    state = next;
-                }
+                state = next;
             }
             Step::End(tree) => {
-                return Ok(Found {
-                    tree,
-                    next: at,
-                    lacking,
-                    blank: fits(alone, inner, position, &token.kind),
-                });
+                let blank = fits(alone, inner, position, &token.kind);
+                return Ok(ended_at(tree, tokens, at, lacking, blank));
             }
         }
     }
     let tree = finish(alloc, state)?;
-    Ok(Found {
-        tree,
-        next: tokens.len(),
-        lacking,
-        blank: false,
-    })
+    Ok(ended_at(tree, tokens, at, lacking, false))
 }
 
 // Reads on behind a first operand, which is all where it stands alone.
 #[inline(always)]
-fn read_behind(
+#[tactic(auto, using(crate::proofs::First::alone_told))]
+fn read_behind<'a, 't>(
     alloc: Global,
     alone: bool,
     first: Expression,
-    tokens: &[Token],
-    from: usize,
-) -> Result<Found, AllocError>
-    requires element { is_element first ≡ true }
-    requires within { from ≤ length tokens.now }
-    ensures reads { IfOk result (λ found. told_of found tokens.now ≡ told alone (whole_of first) (drop from tokens.now)) }
-    ensures within { IfOk result (λ found. found.next ≤ length tokens.now) }
-    ensures onward { IfOk result (λ found. from ≤ found.next) }
+    tokens: &'a [Token<'t>],
+) -> Result<Found<'a, 't>, AllocError>
+    requires { is_element first ≡ true }
+    ensures { IfOk result (λ found. told alone (states.At states.Bottom (states.Whole (expression_of first))) tokens.now ≡ Tells (expressions_of found.tree) found.rest.tokens.now found.rest.lacking found.rest.blank) }
 {
     if alone {
-        return Ok(Found {
-            tree: Some(first),
-            next: from,
-            lacking: 0,
-            blank: false,
-        });
+        return Ok(ended_at(Some(first), tokens, 0, 0, false));
     }
+    let Run { spine, rest } = operands_follow(alloc, first, tokens)?;
     let begun = State {
         stack: Stack::Bottom,
-        spot: Spot::Whole(Spine {
-            pending: Vec::new(alloc),
-            last: first,
-        }),
+        spot: Spot::Whole(spine),
     };
-    read_on(alloc, alone, begun, tokens, from)
+    read_on(alloc, false, begun, rest)
 }
 
-/// Reads one expression from the tokens, from the one at `from` on, or where it stands `alone` one element.
+/// Reads one expression from the tokens, or where it stands `alone` one element.
 ///
 /// It ends before the first token that is not taken, or at the end of the tokens.
 ///
 /// # Errors
 ///
 /// Where a growth was refused.
-pub fn read_expression(
+#[tactic(auto, using(crate::proofs::First::first_told))]
+pub fn read_expression<'a, 't>(
     alloc: Global,
     alone: bool,
-    tokens: &[Token],
-    from: usize,
-) -> Result<Found, AllocError>
-    ensures reads { IfOk result (λ found. Tells (expressions_of found.tree) (drop found.next tokens.now) found.lacking found.blank ≡ telling alone (drop from tokens.now)) }
-    ensures within { IfOk result (λ found. found.next ≤ length tokens.now) }
-    ensures onward { IfOk result (λ found. from ≤ length tokens.now → from ≤ found.next) }
+    tokens: &'a [Token<'t>],
+) -> Result<Found<'a, 't>, AllocError>
+    ensures { IfOk result (λ found. telling alone tokens.now ≡ Tells (expressions_of found.tree) found.rest.tokens.now found.rest.lacking found.rest.blank) }
 {
-    if from < tokens.len() {
-        if let Some(first) = first_operand(alloc, &tokens[from..])? {
-            return read_behind(alloc, alone, first, tokens, from + 1);
+    if let Some((token, behind)) = tokens.split_first() {
+        if let Some(first) = plain(alloc, &token.kind, behind)? {
+            return read_behind(alloc, alone, first, behind);
         }
     }
     let begun = State {
         stack: Stack::Bottom,
         spot: Spot::Due(Hole::Begin),
     };
-    read_on(alloc, alone, begun, tokens, from)
+    read_on(alloc, alone, begun, tokens)
 }

@@ -2,7 +2,7 @@
 
 ghost use Rattle.std.specs.Prelude.{◌≡◌, ◌<◌};
 ghost use Rattle.sno_expression.specs.inner.Reading.{stops, opens_bracket};
-ghost use Rattle.sno_expression.specs.inner.Telling.{begins_variable, is_misfit, most, lack, begins, ends_argument, follows, fits};
+ghost use Rattle.sno_expression.specs.inner.Telling.{begins_variable, most, lack, begins, ends_argument, follows, fits};
 
 use crate::tree::{Prefix, prefix_of};
 use sno_lexer::{Mark, TokenKind};
@@ -48,38 +48,17 @@ pub(crate) fn opens_bracket(before: bool, kind: &TokenKind) -> bool
 {
     match kind {
         TokenKind::Open | TokenKind::OpenAngle => !before,
-        TokenKind::Identifier(_)
-        | TokenKind::Constant(_)
-        | TokenKind::Mark(_)
-        | TokenKind::Close
-        | TokenKind::CloseAngle
-        | TokenKind::Comma
-        | TokenKind::Part(_) => false,
+        _ => false,
     }
 }
 
-fn begins_variable(kind: &TokenKind) -> bool
+pub(crate) fn begins_variable(kind: &TokenKind) -> bool
     ensures { result ≡ begins_variable kind.now }
 {
     match kind {
         TokenKind::Identifier(_) => true,
         TokenKind::Mark(Mark::Dollar) => true,
         _ => false,
-    }
-}
-
-/// Whether the token shows that there is no variable where one is needed: the element begins with something else, or its
-/// name opens a call.
-fn is_misfit(position: Position, before: bool, kind: &TokenKind) -> bool
-    ensures { result ≡ is_misfit position before kind.now }
-{
-    match position {
-        Position::AfterBinary(needed) => needed && !begins_variable(kind),
-        Position::AfterUnary(needed) => needed && !begins_variable(kind),
-        Position::AfterIdentifier(needed) => needed && opens_bracket(before, kind),
-        Position::AtStart => false,
-        Position::AfterPrefix => false,
-        Position::AfterOperand => false,
     }
 }
 
@@ -95,17 +74,13 @@ pub(crate) fn lack(position: Position, before: bool, kind: &TokenKind, left: usi
     requires { left < 9223372036854775808 }
     ensures { result ≡ lack position before kind.now left }
 {
-    if !is_misfit(position, before, kind) {
-        return 0;
-    }
-    match position {
-        Position::AfterIdentifier(_) => left + 1,
-        Position::AtStart => left,
-        Position::AfterBinary(_) => left,
-        Position::AfterUnary(_) => left,
-        Position::AfterPrefix => left,
-        Position::AfterOperand => left,
-    }
+    let (misfit, left) = match position {
+        Position::AfterBinary(needed) => (needed && !begins_variable(kind), left),
+        Position::AfterUnary(needed) => (needed && !begins_variable(kind), left),
+        Position::AfterIdentifier(needed) => (needed && opens_bracket(before, kind), left + 1),
+        Position::AtStart | Position::AfterPrefix | Position::AfterOperand => (false, left),
+    };
+    if misfit { left } else { 0 }
 }
 
 /// Whether the token begins an operand.
@@ -124,11 +99,7 @@ pub fn begins(after: bool, kind: &TokenKind) -> bool
                 None => false,
             }
         }
-        TokenKind::Close
-        | TokenKind::OpenAngle
-        | TokenKind::CloseAngle
-        | TokenKind::Comma
-        | TokenKind::Part(_) => false,
+        _ => false,
     }
 }
 

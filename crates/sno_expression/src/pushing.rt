@@ -1,7 +1,7 @@
 //! One more operand on an open spine: each operator is opened and closed once, whatever the depth.
 
-ghost use Rattle.std.specs.Prelude.{◌≡◌, true, IfOk};
-ghost use Rattle.sno_expression.specs.inner.Levels.{FitsLeft};
+ghost use Rattle.std.specs.Prelude.{◌≡◌, true, not, IfOk};
+ghost use Rattle.sno_expression.specs.Expressions.{Fits, is_right_associative};
 ghost use Rattle.sno_expression.specs.inner.Reading.{push};
 ghost use Rattle.sno_expression.specs.inner.Spines.{is_element, is_ordered, is_under_all};
 ghost use Rattle.sno_expression.specs.Abstraction.{expression_of};
@@ -14,6 +14,7 @@ use crate::tree::{BinaryOperator, Expression, Operands, Pending, binds_into_righ
 use std::alloc::{AllocError, Global};
 
 // One more operator, the innermost, with its operands.
+#[inline(always)]
 #[tactic(auto, using(crate::proofs::Spines::ordered_pushed, crate::proofs::Spines::grown_pushed))]
 fn nest(
     pending: Vec<Pending>,
@@ -23,7 +24,7 @@ fn nest(
 ) -> Result<Spine, AllocError>
     requires ordered { is_ordered pending.items ≡ true }
     requires under { is_under_all operator pending.items ≡ true }
-    requires fits { FitsLeft operator (expression_of left) }
+    requires fits { Fits (not (is_right_associative operator)) operator (expression_of left) }
     requires element { is_element operand ≡ true }
     ensures { IfOk result (λ s. spine_tree s ≡ push operator (expression_of operand) (spread_all pending.items (expression_of left))) }
 {
@@ -38,7 +39,7 @@ fn nest(
 /// Whether the operator may stand under all that are open, as it may where it may stand under the innermost.
 #[inline(always)]
 #[tactic(auto, using(crate::proofs::Spines::under_last))]
-pub(crate) fn goes_under(operator: BinaryOperator, pending: &[Pending]) -> bool
+fn goes_under(operator: BinaryOperator, pending: &[Pending]) -> bool
     requires { is_ordered pending.now ≡ true }
     ensures { result ≡ is_under_all operator pending.now }
 {
@@ -58,7 +59,7 @@ pub(crate) fn grow(
     last: Expression,
 ) -> Result<Spine, AllocError>
     requires ordered { is_ordered pending.items ≡ true }
-    requires fits { FitsLeft operator (expression_of last) }
+    requires fits { Fits (not (is_right_associative operator)) operator (expression_of last) }
     requires element { is_element operand ≡ true }
     ensures { IfOk result (λ s. spine_tree s ≡ push operator (expression_of operand) (spread_all pending.items (expression_of last))) }
 {
@@ -73,6 +74,26 @@ pub(crate) fn grow(
             grow(alloc, operator, operand, pending, last)
         }
     }
+}
+
+/// One more operand, at once where nothing has to be closed before it.
+#[inline(always)]
+pub(crate) fn extend(
+    alloc: Global,
+    operator: BinaryOperator,
+    operand: Expression,
+    pending: Vec<Pending>,
+    last: Expression,
+) -> Result<Spine, AllocError>
+    requires ordered { is_ordered pending.items ≡ true }
+    requires fits { Fits (not (is_right_associative operator)) operator (expression_of last) }
+    requires element { is_element operand ≡ true }
+    ensures { IfOk result (λ s. spine_tree s ≡ push operator (expression_of operand) (spread_all pending.items (expression_of last))) }
+{
+    if goes_under(operator, pending.as_slice()) {
+        return nest(pending, last, operator, operand);
+    }
+    grow(alloc, operator, operand, pending, last)
 }
 
 // All operators closed: they lie side by side behind the outermost.

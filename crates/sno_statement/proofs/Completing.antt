@@ -27,10 +27,10 @@ use Rattle.sno_statement.specs.Statements.{Target, To, Computed, Goto, NoGoto, A
 use Rattle.sno_statement.specs.Spelling.{TargetTo, OutcomeTo, LeadsTo, GotoTo, ObjectTo, Spells}
 use Rattle.sno_statement.specs.Lacking.{lacking_object, lacking_body, lacking_target, lacking_goto, named_first, lacking_in}
 use Rattle.sno_statement.specs.inner.Parsing.{stands, blamed, Aim, Aimed, computed, inside, target_in, Way, Leads, always, both, next, chosen, goto_in, Stated, States, stated, going, is_colon, ends_part, ending, giving, by_object, object_in, set, pattern_then, matching, by_subject, subject_then, acting, by_first, statement_in}
-use Rattle.sno_expression.proofs.Feeding.{complete, counted}
+use Rattle.sno_expression.proofs.Feeding.{headed, complete, counted}
 use Rattle.sno_expression.proofs.Lacks.{lacks, lacks_append, lacks_closed, raised}
 use Rattle.sno_expression.proofs.Loop.{most_most, most_none, none_most}
-use Rattle.sno_statement.proofs.Roles.{headed, stops_blank, dollar, no_colon}
+use Rattle.sno_statement.proofs.Roles.{head_role, stops_blank, dollar, no_colon}
 use Rattle.sno_statement.proofs.Shorthand.{PatternTo, ColonTo, is_wrong, lacking_pattern}
 
 -- COUNTS
@@ -197,7 +197,7 @@ giving_read : (s : Expression) (p : Option Expression) (n : ℕ) (t : Expression
 giving_read s p n t ts rest q =
     let h = headed t true ts rest q in
     ap (object_in s p n) h.is
-    ∙ (ap (λ (r : Role). by_object r s p n h.head h.tail) h.role
+    ∙ (ap (λ (r : Role). by_object r s p n h.head h.tail) (head_role true ts h)
     ∙ ap (λ (x : List Token). giving s p n (telling false x)) (sym h.is))
 
 matching_read : (z : ℕ) (w : Bool) (s : Expression) (n : ℕ) (t : Expression) (ts rest : List Token) → SpellsTo true t ts rest → subject_then z w s n ts ≡ matching z s n (telling false ts)
@@ -205,7 +205,7 @@ matching_read z w s n t ts rest q =
     let h = headed t true ts rest q in
     let b = w || (begins false h.head.kind || ends_part h.head.kind) in
     ap (subject_then z w s n) h.is
-    ∙ (ap (λ (r : Role). by_subject r z b s n h.head h.tail) h.role
+    ∙ (ap (λ (r : Role). by_subject r z b s n h.head h.tail) (head_role true ts h)
     ∙ (ap (λ (c : Bool). if c then matching z s n (telling false (h.head ∷ h.tail)) else Err (blamed b n (h.head ∷ h.tail))) h.opens
     ∙ ap (λ (x : List Token). matching z s n (telling false x)) (sym h.is)))
 
@@ -217,7 +217,7 @@ acting_read : (t : Expression) (b : Bool) (ts rest : List Token) → SpellsTo b 
 acting_read t b ts rest q =
     let h = headed t b ts rest q in
     ap statement_in h.is
-    ∙ (ap (λ (r : Role). by_first r (length (h.head ∷ h.tail)) h.head h.tail) h.role
+    ∙ (ap (λ (r : Role). by_first r (length (h.head ∷ h.tail)) h.head h.tail) (head_role b ts h)
     ∙ (begun b h.head h.tail (no_colon h.head.blank_after h.head.kind h.opens)
     ∙ ap (λ (x : List Token). acting (length x) (telling true x)) (sym h.is)))
 

@@ -3,7 +3,7 @@ use Rattle.std.proofs.Common.{◌≡◌, ℕ, List, [], ◌∷◌, refl}
 use Rattle.std.specs.Prelude.{Bool, true, false, Option, Some, None}
 use Rattle.sno_lexer.specs.declared.token.Constant.TheVariants as constant
 use Rattle.sno_lexer.specs.declared.token.Mark.{Mark}
-use Rattle.sno_lexer.specs.declared.token.Mark.TheVariants.{Slash, Plus, Minus, Dot, Dollar, Ampersand}
+use Rattle.sno_lexer.specs.declared.token.Mark.TheVariants.{Slash, Plus, Dot, Dollar, Ampersand}
 use Rattle.sno_lexer.specs.declared.token.Outcome.{Outcome}
 use Rattle.sno_lexer.specs.declared.token.Outcome.TheVariants.{Success, Failure}
 use Rattle.sno_lexer.specs.declared.token.Part.TheVariants.{Equals, Colon, On, Label}
@@ -11,10 +11,10 @@ use Rattle.sno_lexer.specs.declared.token.Token.{Token}
 use Rattle.sno_lexer.specs.declared.token.TokenKind.TheVariants as token
 use Rattle.sno_expression.specs.Spelling.{spaced}
 use Rattle.sno_expression.specs.declared.tree.UnaryOperator.TheVariants as unary
-use Rattle.sno_expression.specs.Expressions.{Expression, Identifier, Constant, Call, TableItem, Unary, NoArguments, Omitted, Argument}
+use Rattle.sno_expression.specs.Expressions.{Expression, Identifier, Constant, Call, Unary, NoArguments, Omitted, Argument}
 use Rattle.sno_statement.specs.declared.fault.Fault.{Fault}
 use Rattle.sno_statement.specs.declared.fault.FaultKind.TheVariants.{MissingBlank, Unfit, NoVariable}
-use Rattle.sno_statement.specs.Statements.{Target, To, Computed, NoGoto, Always, OnSuccess, OnBoth, NullObject, ValueObject, NoBody, Does, Statement, Says}
+use Rattle.sno_statement.specs.Statements.{Target, To, Computed, NoGoto, Always, OnSuccess, OnBoth, NullObject, NoBody, Does, Statement, Says}
 use Rattle.sno_statement.specs.inner.Faults.{fault}
 use Rattle.sno_statement.specs.inner.Parsing.{FaultAt, stated, statement_in}
 
@@ -61,10 +61,6 @@ blanks_round_plus = refl
 no_pattern_by_slash : fault (name true 88 ∷ mark true true Slash ∷ one true ∷ []) ≡ Some (FaultAt 1 Unfit)
 no_pattern_by_slash = refl
 
--- A = -
-sign_last : fault (name true 65 ∷ equals true true ∷ mark true true Minus ∷ []) ≡ Some (FaultAt 2 MissingBlank)
-sign_last = refl
-
 -- :F(M)S(L)
 failure_first : answer (colon true ∷ on false Failure ∷ spaced false false token.Open ∷ label 77 ∷ spaced false false token.Close ∷ on false Success ∷ spaced false false token.Open ∷ label 76 ∷ spaced false false token.Close ∷ []) ≡ (Some (Says NoBody (OnBoth (to 76) (to 77))), None)
 failure_first = refl
@@ -72,10 +68,6 @@ failure_first = refl
 -- :S(L)S(M)
 twice_success : fault (colon true ∷ on false Success ∷ spaced false false token.Open ∷ label 76 ∷ spaced false false token.Close ∷ on false Success ∷ spaced false false token.Open ∷ label 77 ∷ spaced false false token.Close ∷ []) ≡ Some (FaultAt 5 Unfit)
 twice_success = refl
-
--- X:(L)
-colon_touches : fault (name true 88 ∷ colon false ∷ spaced false false token.Open ∷ label 76 ∷ spaced false false token.Close ∷ []) ≡ Some (FaultAt 1 MissingBlank)
-colon_touches = refl
 
 -- :S( $A('1') )
 computed_call : answer (colon true ∷ on false Success ∷ spaced false false token.Open ∷ mark true false Dollar ∷ name false 65 ∷ spaced false false token.Open ∷ one false ∷ spaced false false token.Close ∷ spaced true false token.Close ∷ []) ≡ (Some (Says NoBody (OnSuccess (Computed (Call (65 ∷ []) (Argument NoArguments unit))))), None)
@@ -85,17 +77,9 @@ computed_call = refl
 computed_apart : fault (colon true ∷ spaced false false token.Open ∷ mark false true Dollar ∷ name true 65 ∷ spaced false false token.Close ∷ []) ≡ Some (FaultAt 2 MissingBlank)
 computed_apart = refl
 
--- &X(1)
-keyword_touched : fault (mark true false Ampersand ∷ name false 88 ∷ spaced false false token.Open ∷ one false ∷ spaced false false token.Close ∷ []) ≡ Some (FaultAt 2 MissingBlank)
-keyword_touched = refl
-
 -- 'A' = 1 +
 constant_set : fault (one true ∷ equals true true ∷ one true ∷ mark true true Plus ∷ []) ≡ Some (FaultAt 0 NoVariable)
 constant_set = refl
-
--- T<1> = 1
-item_set : answer (name true 84 ∷ spaced false false token.OpenAngle ∷ one false ∷ spaced false false token.CloseAngle ∷ equals true true ∷ one true ∷ []) ≡ (Some (Says (Does (TableItem (84 ∷ []) unit) None (ValueObject unit)) (NoGoto)), None)
-item_set = refl
 
 -- X P . F(V) /
 assigned_call : fault (name true 88 ∷ name true 80 ∷ mark true true Dot ∷ name true 70 ∷ spaced false false token.Open ∷ name false 86 ∷ spaced false false token.Close ∷ mark true false Slash ∷ []) ≡ Some (FaultAt 3 NoVariable)

@@ -1,6 +1,6 @@
 -- How a statement is read token by token: what has been read so far makes of the tokens to come what a shape makes of them.
 use Rattle.std.proofs.Common.{arith, ◌≡◌, ℕ, suc, ◌+◌, ◌≤◌, length, List, [], ◌∷◌, ◌++◌, refl, sym, ap, ap₂, ◌∙◌, subst, inl, inr}
-use Rattle.std.specs.Prelude.{Bool, true, false, nat_le, Option, Some, None, is_some, Result, Ok, Err, ◌⊎◌, ◌||◌, ◌&&◌, if◌then◌else◌}
+use Rattle.std.specs.Prelude.{Bool, true, false, nat_le, Option, Some, None, is_some, Result, Ok, Err, ◌⊎◌, ◌||◌, ◌&&◌, not, if◌then◌else◌}
 use Rattle.std.proofs.lemmas.Bool.{leb-true}
 use Rattle.std.proofs.lemmas.Bool.Decides.{nat_tests}
 use Rattle.sno_lexer.specs.declared.token.Mark.TheVariants.{Dollar}
@@ -11,12 +11,12 @@ use Rattle.sno_lexer.specs.declared.token.Token.{Token}
 use Rattle.sno_lexer.specs.declared.token.TokenKind.{TokenKind}
 use Rattle.sno_lexer.specs.declared.token.TokenKind.TheVariants as token
 use Rattle.sno_expression.specs.declared.position.Position.{Position}
-use Rattle.sno_expression.specs.declared.position.Position.TheVariants.{AtStart, AfterBinary, AfterUnary, AfterPrefix, AfterIdentifier, AfterOperand}
+use Rattle.sno_expression.specs.declared.position.Position.TheVariants.{AfterBinary, AfterUnary, AfterIdentifier}
 use Rattle.sno_expression.specs.declared.tree.UnaryOperator.TheVariants.{Indirect}
 use Rattle.sno_expression.specs.Expressions.{Expression, Unary}
 use Rattle.sno_expression.specs.Spelling.{spaced}
-use Rattle.sno_expression.specs.inner.Reading.{State, Bottom, Begin, Under, Due, At, read, result, start, position}
-use Rattle.sno_expression.specs.inner.Telling.{most, begins, is_misfit, lacking_from, lack_at, fits_at, Told, Tells, with_lack, then_tell, told, telling}
+use Rattle.sno_expression.specs.inner.Reading.{State, Bottom, Begin, Under, Due, At, read, result, start, position, opens_bracket}
+use Rattle.sno_expression.specs.inner.Telling.{most, begins, begins_variable, lack, lack_at, fits_at, Told, Tells, with_lack, then_tell, told, telling}
 use Rattle.sno_statement.specs.declared.parser.Refusal.{Refusal}
 use Rattle.sno_statement.specs.declared.role.Role.{Role}
 use Rattle.sno_statement.specs.declared.role.Role.TheVariants.{Assigns, Goes as Leads_on, Follows, Touches}
@@ -60,27 +60,27 @@ count_merged (Some d) (Some e) n = at (nat_le d e) (nat_le (suc (d + n)) (suc (e
     at false false f g = refl
 
 -- the place that a token shows
-abbrev back : Position → ℕ
-back (AfterIdentifier w) = 1
-back _ = 0
+abbrev shown_by : Position → Bool → TokenKind → Option ℕ
+shown_by (AfterBinary w) b k = if w && not (begins_variable k) then Some 0 else None
+shown_by (AfterUnary w) b k = if w && not (begins_variable k) then Some 0 else None
+shown_by (AfterIdentifier w) b k = if w && opens_bracket b k then Some 1 else None
+shown_by _ b k = None
 
 abbrev shown : State → Token → Option ℕ
-shown (At st spot) t = if is_misfit (position spot) t.blank_before t.kind then Some (back (position spot)) else None
+shown (At st spot) t = shown_by (position spot) t.blank_before t.kind
 
-back_count : (p : Position) (n : ℕ) → lacking_from p (suc n) ≡ suc (back p + n)
-back_count (AfterIdentifier w) n = omega arith
-back_count AtStart n = omega arith
-back_count (AfterBinary w) n = omega arith
-back_count (AfterUnary w) n = omega arith
-back_count AfterPrefix n = omega arith
-back_count AfterOperand n = omega arith
+place_count : (c : Bool) (d l n : ℕ) → l ≡ suc (d + n) → (if c then l else 0) ≡ count (if c then Some d else None) n
+place_count true d l n e = e
+place_count false d l n e = refl
+
+by_count : (p : Position) (b : Bool) (k : TokenKind) (n : ℕ) → lack p b k (suc n) ≡ count (shown_by p b k) n
+by_count (AfterBinary w) b k n = place_count (w && not (begins_variable k)) 0 (suc n) n (omega arith)
+by_count (AfterUnary w) b k n = place_count (w && not (begins_variable k)) 0 (suc n) n (omega arith)
+by_count (AfterIdentifier w) b k n = place_count (w && opens_bracket b k) 1 (suc n + 1) n (omega arith)
+by_count _ b k n = refl
 
 shown_count : (s : State) (t : Token) (n : ℕ) → lack_at s t (suc n) ≡ count (shown s t) n
-shown_count (At st spot) t n = at (is_misfit (position spot) t.blank_before t.kind)
-  where
-    at : (c : Bool) → (if c then lacking_from (position spot) (suc n) else 0) ≡ count (if c then Some (back (position spot)) else None) n
-    at true = back_count (position spot) n
-    at false = refl
+shown_count (At st spot) t n = by_count (position spot) t.blank_before t.kind n
 
 -- SHAPES
 
@@ -298,11 +298,14 @@ abbrev Suited : Field → Expression → Type 0
 Suited (Element k) x = (u : Expression) × (x ≡ Unary Indirect u)
 Suited _ x = Unit {0}
 
+told_suited : (f : Field) (s : State) (ts rest : List Token) (x : Expression) (n : ℕ) (w : Bool) → Proper f s → told (alone f) s ts ≡ Tells (Some x) rest n w → Suited f x
+told_suited (Element k) s ts rest x n w i e = i ts rest x n w e
+told_suited Subject s ts rest x n w i e = tt
+told_suited (Pattern y) s ts rest x n w i e = tt
+told_suited (Object y p) s ts rest x n w i e = tt
+
 suited : (f : Field) (s : State) (x : Expression) → Proper f s → result s ≡ Some x → Suited f x
-suited Subject s x i e = tt
-suited (Pattern y) s x i e = tt
-suited (Object y p) s x i e = tt
-suited (Element k) s x i e = i [] [] x 0 false (ap (λ (o : Option Expression). Tells o [] 0 false) e)
+suited f s x i e = told_suited f s [] [] x 0 false i (ap (λ (o : Option Expression). Tells o [] 0 false) e)
 
 abbrev after : Behind → Target → Shape
 after (Alone b) t = AfterLast b (Always t)
@@ -717,27 +720,24 @@ opening = spaced false false token.Open
 abbrev pub Completes : Shape → Type 0
 Completes c = (m : List Token) × ((n : ℕ) → (s : Statement) × (run c n m ≡ Ok (States s n)))
 
+-- a target ends with its parenthesis
+abbrev closes : Field → Bool
+closes (Element h) = true
+closes _ = false
+
+left_ends : (u : ℕ) (f : Field) (l : ℕ) (x : Expression) (w : Bool) (n : ℕ) → Suited f x → (s : Statement) × (left u f l x w n (tail (closes f)) ≡ Ok (States s n))
+left_ends u Subject l x w n j = (Says (Does x None NoObject) NoGoto, refl)
+left_ends u (Pattern y) l x w n j = (Says (Does y (Some x) NoObject) NoGoto, refl)
+left_ends u (Object y p) l x w n j = (Says (Does y p (ValueObject x)) NoGoto, refl)
+left_ends u (Element h) l x w n j =
+    let y = target_ends h (Computed j.0) n in (y.0, ap (λ (z : Expression). aim_then h (indirect w (Some z) n (tail true))) j.1 ∙ y.1)
+
 field_completes : (u : ℕ) (f : Field) (s : State) (i : Proper f s) → Completes (In u f s i)
-field_completes u Subject s i =
-    let x = state_ends s true false in
-    (completion s ++ [], λ n. (Says (Does x.0 None NoObject) NoGoto, ap (use_told u Subject (length (completion s ++ [])) n) x.2 ∙ some_used u Subject (length (completion s ++ [])) n x.0 [] x.1))
-field_completes u (Pattern y) s i =
-    let x = state_ends s false false in
-    (completion s ++ [], λ n. (Says (Does y (Some x.0) NoObject) NoGoto, ap (use_told u (Pattern y) (length (completion s ++ [])) n) x.2 ∙ some_used u (Pattern y) (length (completion s ++ [])) n x.0 [] x.1))
-field_completes u (Object y p) s i =
-    let x = state_ends s false false in
-    (completion s ++ [], λ n. (Says (Does y p (ValueObject x.0)) NoGoto, ap (use_told u (Object y p) (length (completion s ++ [])) n) x.2 ∙ some_used u (Object y p) (length (completion s ++ [])) n x.0 [] x.1))
-field_completes u (Element h) s i =
-    let x = state_ends s true true in
-    let l = completion s ++ tail true in
-    let j = i l (tail true) x.0 0 x.1 x.2 in (
-      l,
-      λ n. let y = target_ends h (Computed j.0) n in (
-        y.0,
-        ap (use_told u (Element h) (length l) n) x.2
-            ∙ (some_used u (Element h) (length l) n x.0 (tail true) x.1 ∙ (ap (λ (z : Expression). aim_then h (indirect x.1 (Some z) n (tail true))) j.1 ∙ y.1)),
-      ),
-    )
+field_completes u f s i =
+    let x = state_ends s (alone f) (closes f) in
+    let m = completion s ++ tail (closes f) in
+    let j = told_suited f s m (tail (closes f)) x.0 0 x.1 i x.2 in
+    (m, λ n. let y = left_ends u f (length m) x.0 x.1 n j in (y.0, ap (use_told u f (length m) n) x.2 ∙ (some_used u f (length m) n x.0 (tail (closes f)) x.1 ∙ y.1)))
 
 pub completes : (c : Shape) → Completes c
 completes Start = ([], λ n. (Says NoBody NoGoto, refl))

@@ -3,7 +3,7 @@
 
 ghost use Rattle.std.specs.Prelude.{◌≡◌, IfOk, Some, Ok, true, false, length};
 ghost use Rattle.sno_expression.specs.Abstraction.{expression_of, expressions_of};
-ghost use Rattle.sno_expression.specs.inner.Telling.{Tells, telling};
+ghost use Rattle.sno_expression.specs.inner.Telling.{telling};
 ghost use Rattle.sno_statement.specs.Statements as the;
 ghost use Rattle.sno_statement.specs.inner.Parsing.{blamed, closing, indirect, computed, inside, target_in, at_last, always, both, next};
 ghost use Rattle.sno_statement.specs.inner.Parsing.{chosen, goto_in, going, States, is_colon, ends_part, ending, set, giving, object_in};
@@ -14,7 +14,7 @@ ghost use Rattle.sno_statement.specs.inner.Told.{aims_of, ways_of, stated_of};
 use crate::fault::FaultKind;
 use crate::role::{Role, role_of};
 use crate::statement::{Body, Goto, Object, Statement, Target};
-use sno_expression::{Expression, Found, UnaryOperator, begins, most, read_expression};
+use sno_expression::{Expression, Found, Rest, UnaryOperator, begins, most, read_expression};
 use sno_lexer::{Mark, Outcome, Part, Token, TokenKind};
 use std::alloc::{AllocError, Global};
 
@@ -26,23 +26,6 @@ pub struct Refusal {
     /// The place of the token that does not fit.
     pub left: usize,
     pub kind: FaultKind,
-}
-
-/// The tokens that are left.
-#[derive(Clone, Copy)]
-pub struct Rest<'a, 't> {
-    pub tokens: &'a [Token<'t>],
-    /// The leftmost place before them that lacks a variable, or 0.
-    pub lacking: usize,
-    /// Whether the first would go on with what stands before it, with other blanks round it.
-    pub blank: bool,
-}
-
-/// What was read as an expression, and the tokens behind it.
-#[derive(Drop)]
-pub struct Piece<'a, 't> {
-    pub tree: Option<Expression>,
-    pub rest: Rest<'a, 't>,
 }
 
 /// A target, and the tokens behind it.
@@ -80,30 +63,6 @@ fn refused(blank: bool, lacking: usize, tokens: &[Token]) -> Refusal
             FaultKind::Unfit
         },
     }
-}
-
-// An expression, or one element alone, as far as it goes.
-fn read_piece<'a, 't>(
-    alloc: Global,
-    alone: bool,
-    tokens: &'a [Token<'t>],
-) -> Result<Piece<'a, 't>, AllocError>
-    ensures { IfOk result (λ p. telling alone tokens.now ≡ Tells (expressions_of p.tree) p.rest.tokens.now p.rest.lacking p.rest.blank) }
-{
-    let Found {
-        tree,
-        next,
-        lacking,
-        blank,
-    } = read_expression(alloc, alone, tokens, 0)?;
-    Ok(Piece {
-        tree,
-        rest: Rest {
-            tokens: &tokens[next..],
-            lacking,
-            blank,
-        },
-    })
 }
 
 fn closing<'a, 't>(
@@ -152,7 +111,7 @@ fn computed<'a, 't>(
 ) -> Result<Result<Aim<'a, 't>, Refusal>, AllocError>
     ensures { IfOk result (λ a. aims_of a ≡ computed lacking (telling true tokens.now)) }
 {
-    let Piece { tree, rest } = read_piece(alloc, true, tokens)?;
+    let Found { tree, rest } = read_expression(alloc, true, tokens)?;
     let lacking = most(lacking, rest.lacking);
     match tree {
         None => Ok(Err(refused(rest.blank, lacking, rest.tokens))),
@@ -393,7 +352,7 @@ fn giving(
 ) -> Result<Result<Stated, Refusal>, AllocError>
     ensures { IfOk result (λ s. stated_of s ≡ giving (expression_of subject) (expressions_of pattern) lacking (telling false tokens.now)) }
 {
-    let Piece { tree, rest } = read_piece(alloc, false, tokens)?;
+    let Found { tree, rest } = read_expression(alloc, false, tokens)?;
     let lacking = most(lacking, rest.lacking);
     match tree {
         None => Ok(Err(refused(rest.blank, lacking, rest.tokens))),
@@ -498,7 +457,7 @@ fn matching(
 ) -> Result<Result<Stated, Refusal>, AllocError>
     ensures { IfOk result (λ s. stated_of s ≡ matching total (expression_of subject) lacking (telling false tokens.now)) }
 {
-    let Piece { tree, rest } = read_piece(alloc, false, tokens)?;
+    let Found { tree, rest } = read_expression(alloc, false, tokens)?;
     let lacking = most(lacking, rest.lacking);
     match tree {
         None => Ok(Err(refused(rest.blank, lacking, rest.tokens))),
@@ -550,7 +509,7 @@ fn subject_then(
 fn acting(alloc: Global, tokens: &[Token]) -> Result<Result<Stated, Refusal>, AllocError>
     ensures { IfOk result (λ s. stated_of s ≡ acting (length tokens.now) (telling true tokens.now)) }
 {
-    let Piece { tree, rest } = read_piece(alloc, true, tokens)?;
+    let Found { tree, rest } = read_expression(alloc, true, tokens)?;
     match tree {
         None => Ok(Err(refused(rest.blank, rest.lacking, rest.tokens))),
         Some(subject) => subject_then(alloc, tokens.len(), subject, rest),

@@ -17,25 +17,18 @@ use Rattle.sno_expression.specs.inner.Reading.{State, At, read, result, start, s
 abbrev pub most : ℕ → ℕ → ℕ
 most a b = if nat_le a b then b else a
 
--- an element that stands where a variable is needed and is none is seen where it begins, or where its identifier opens a bracket
 abbrev pub begins_variable : TokenKind → Bool
 begins_variable (token.Identifier n) = true
 begins_variable (token.Mark mark.Dollar) = true
 begins_variable _ = false
 
-abbrev pub is_misfit : Position → Bool → TokenKind → Bool
-is_misfit (AfterBinary w) b k = w && not (begins_variable k)
-is_misfit (AfterUnary w) b k = w && not (begins_variable k)
-is_misfit (AfterIdentifier w) b k = w && opens_bracket b k
-is_misfit _ b k = false
-
--- the place that a token shows to lack a variable, with n tokens left from the token on
-abbrev pub lacking_from : Position → ℕ → ℕ
-lacking_from (AfterIdentifier w) n = n + 1
-lacking_from _ n = n
-
+-- the place that a token shows to lack a variable, with n tokens left from the token on: an element that should be one and is none
+-- is seen where it begins, or where its identifier opens a bracket
 abbrev pub lack : Position → Bool → TokenKind → ℕ → ℕ
-lack p b k n = if is_misfit p b k then lacking_from p n else 0
+lack (AfterBinary w) b k n = if w && not (begins_variable k) then n else 0
+lack (AfterUnary w) b k n = if w && not (begins_variable k) then n else 0
+lack (AfterIdentifier w) b k n = if w && opens_bracket b k then n + 1 else 0
+lack _ b k n = 0
 
 abbrev pub lack_at : State → Token → ℕ → ℕ
 lack_at (At st spot) t n = lack (position spot) t.blank_before t.kind n

@@ -35,11 +35,8 @@ abbrev pub role : Token → Role
 role t = role_by t.blank_before t.blank_after t.kind
 
 -- refused at the first of these tokens; would it be taken with other blanks
-abbrev pub refused : FaultKind → ℕ → List Token → Refusal
-refused k n ts = record { lacking = n; left = length ts; kind = k }
-
 abbrev pub blamed : Bool → ℕ → List Token → Refusal
-blamed blank n ts = refused (if blank then MissingBlank else Unfit) n ts
+blamed blank n ts = record { lacking = n; left = length ts; kind = if blank then MissingBlank else Unfit }
 
 pub data Aim : Type 0 where
   Aimed : Target → ℕ → List Token → Aim

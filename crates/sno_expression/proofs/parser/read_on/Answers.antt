@@ -1,25 +1,25 @@
-use Rattle.std.proofs.Common.{◌≡◌, ℕ, ◌+◌, ◌-◌, ◌∙◌, ap, drop, length, arith}
+use Rattle.std.proofs.Common.{◌≡◌, ℕ, ◌+◌, ◌-◌, ◌∙◌, ap, sym, drop, length, arith}
+use Rattle.std.specs.Prelude.{Option}
+use Rattle.sno_expression.specs.declared.position.Paren.{Paren}
 use Rattle.sno_expression.specs.declared.position.Position.{Position}
 use Rattle.sno_expression.specs.Abstraction.{expressions_of}
 use Rattle.sno_expression.specs.inner.Reading.{inner_of, parens, position}
 use Rattle.sno_expression.specs.inner.Telling.{most, lack, lack_at, fits, told, with_lack}
 use Rattle.sno_expression.specs.inner.Told.{stack_of, spot_of, state_of}
-use Rattle.sno_expression.specs.declared.position.Paren.{Paren}
-use Rattle.std.specs.Prelude.{Option}
 use Rattle.sno_expression.proofs.Loop.{more, on_next, on_end, left_from}
 use Rattle.sno_expression.proofs.parser.read_on.Goals as goal
 
-pub returns-in-End-clause-reads : goal.returns-in-End-clause-reads
-returns-in-End-clause-reads c =
+pub returns-in-End : goal.returns-in-End
+returns-in-End c =
     let ts = c.args.tokens.now in
     let i = c.loop-at.at in
     let t = c.index-tokens-at.result in
-    on_end c.args.alone (state_of c.loop-at.state) (expressions_of c.in-End.tree) t (drop i ts) (drop (i + 1) ts) c.loop-at.lacking c.fits.result (told c.args.alone (state_of c.args.begun) (drop c.args.from ts))
+    sym (on_end c.args.alone (state_of c.loop-at.state) (expressions_of c.in-End.tree) t (drop i ts) (drop (i + 1) ts) c.loop-at.lacking c.fits-blank.result (told c.args.alone (state_of c.args.begun) ts)
     (more ts i t c.loop-at-test.true c.index-tokens-at.is) (rw c.in-End.is at c.in_ok-next.ensures)
-    (c.fits.ensures
+    (c.fits-blank.ensures
     ∙ (ap (λ (q : Option Paren). fits c.args.alone q c.position-position.result t.kind) c.inner-inner.ensures
     ∙ ap (λ (p : Position). fits c.args.alone (inner_of (parens (stack_of c.loop-at.state.stack))) p t.kind) c.position-position.ensures))
-    c.loop-at.invariant.same
+    c.loop-at.invariant.same) ∙ sym c.ended_at.ensures
 
 pub loop-at-preserved : goal.loop-at-preserved
 loop-at-preserved c =
@@ -27,7 +27,7 @@ loop-at-preserved c =
     let i = c.loop-at.at in
     let t = c.index-tokens-at.result in
     let m = more ts i t c.loop-at-test.true c.index-tokens-at.is in
-    let all = told c.args.alone (state_of c.args.begun) (drop c.args.from ts) in
+    let all = told c.args.alone (state_of c.args.begun) ts in
     let here : c.lack-here.result ≡ lack_at (state_of c.loop-at.state) t (length (drop i ts)) =
     c.lack-here.ensures
     ∙ (ap (λ (p : Position). lack p t.blank_before t.kind (length ts - i)) c.position-position.ensures
@@ -35,23 +35,5 @@ loop-at-preserved c =
     let next : all ≡ with_lack c.most-lacking.result (told c.args.alone (state_of c.in-Next.next) (drop (i + 1) ts)) =
     on_next c.args.alone (state_of c.loop-at.state) (state_of c.in-Next.next) t (drop i ts) (drop (i + 1) ts) c.loop-at.lacking c.most-lacking.result all
     m (rw c.in-Next.is at c.in_ok-next.ensures) (c.most-lacking.ensures ∙ ap (most c.loop-at.lacking) here) c.loop-at.invariant.same in
-    let o = c.loop-at.invariant.onward in
-    record { same = next; onward = omega arith }
-
-pub loop-at-preserved-then-names_stand : goal.loop-at-preserved-then-names_stand
-loop-at-preserved-then-names_stand c =
-    let ts = c.args.tokens.now in
-    let i = c.loop-at.at in
-    let t = c.index-tokens-at.result in
-    let m = more ts i t c.loop-at-test.true c.index-tokens-at.is in
-    let all = told c.args.alone (state_of c.args.begun) (drop c.args.from ts) in
-    let here : c.lack-here.result ≡ lack_at (state_of c.loop-at.state) t (length (drop i ts)) =
-    c.lack-here.ensures
-    ∙ (ap (λ (p : Position). lack p t.blank_before t.kind (length ts - i)) c.position-position.ensures
-    ∙ ap (λ (x : ℕ). lack (position (spot_of c.loop-at.state.spot)) t.blank_before t.kind x) (left_from ts (drop (i + 1) ts) i t m)) in
-    let next : all ≡ with_lack c.most-lacking.result (told c.args.alone (state_of c.in-Next.next) (drop (i + 1) ts)) =
-    on_next c.args.alone (state_of c.loop-at.state) (state_of c.in-Next.next) t (drop i ts) (drop (i + 1) ts) c.loop-at.lacking c.most-lacking.result all
-    m (rw c.in-Next.is at c.in_ok-next.ensures) (c.most-lacking.ensures ∙ ap (most c.loop-at.lacking) here) c.loop-at.invariant.same in
-    let o = c.loop-at.invariant.onward in
-    let p = c.in_ok-run-in-Next.ensures.onward in
-    record { same = next ∙ ap (with_lack c.most-lacking.result) c.in_ok-run-in-Next.ensures.same; onward = omega arith }
+    let w = c.loop-at-test.true in
+    record { same = next; within = omega arith }

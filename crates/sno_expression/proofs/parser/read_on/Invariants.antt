@@ -5,8 +5,8 @@ use Rattle.sno_expression.proofs.parser.read_on.Given as goal
 
 abbrev pub invariant-loop-at : goal.invariant-loop-at
 invariant-loop-at l = record {
-  same : told l.fn.alone (state_of l.fn.begun) (drop l.from l.tokens) ≡ with_lack l.lacking (told l.alone (state_of l.state) (drop l.at l.tokens));
-  onward : l.from ≤ l.at;
+  same : told l.fn.alone (state_of l.fn.begun) l.tokens ≡ with_lack l.lacking (told l.alone (state_of l.state) (drop l.at l.tokens));
+  within : l.at ≤ length l.tokens;
 }
 
 abbrev pub decreases-loop-at : goal.decreases-loop-at
