@@ -9,9 +9,6 @@ use Rattle.deck_driver.specs.declared.section.DeckState.TheVariants as state
 use Rattle.deck_driver.specs.Feeds.{outcome, outcome_of, behind, Outcome, Begins}
 use Rattle.deck_driver.proofs.Following.{ends_here, outcome_refused}
 
-pub begins_itself : (t : List ℕ) → Begins t t
-begins_itself t = ([], sym (append-nil t))
-
 pub same_begins : (t s : List ℕ) → s ≡ t → Begins t s
 same_begins t s same = ([], same ∙ sym (append-nil t))
 
@@ -27,10 +24,6 @@ nothing_printed options jobs m (state.Refused k code) n = refl
 nothing_printed options jobs m state.NoMemory n = refl
 
 module _ (out new : List ℕ) (j k : Counts) (before after : Outcome) (same : behind new k after ≡ behind out j before) where
-  -- what stands written begins what will have been written
-  pub begins_whole : Begins new (behind out j before).written
-  begins_whole = (after.written, sym (ap (λ (o : Outcome). o.written) same))
-
   -- and where nothing is to come, it is that
   pub only_appends : after.written ≡ [] → Begins out new
   only_appends none = (before.written, sym (append-nil new) ∙ ap (λ t. new ++ t) (sym none) ∙ ap (λ (o : Outcome). o.written) same)

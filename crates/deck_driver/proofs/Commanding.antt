@@ -85,12 +85,6 @@ events_first k (Enters job) asked = let e : suc (suc k) ≡ suc (k + 1) = omega 
 events_first k (Gives turn) asked = let e : k ≡ k + 0 = omega arith in ap (λ i. Give turn.slot turn.count ∷ events_of (suc i) asked) e
 events_first k Drains asked = let e : k ≡ k + 0 = omega arith in ap (λ i. Drain ∷ events_of (suc i) asked) e
 
-played_is : (p : Played) (printouts : List Printout) (w : SystemState) (m : Marks) → p.printouts ≡ printouts → p.after ≡ w → p.marks ≡ m → p ≡ record { printouts = printouts; after = w; marks = m }
-played_is p printouts w m x y z =
-    ap (λ ps. record { printouts = ps; after = p.after; marks = p.marks }) x
-    ∙ ap (λ (v : SystemState). record { printouts = printouts; after = v; marks = p.marks }) y
-    ∙ ap (λ n. record { printouts = printouts; after = w; marks = n }) z
-
 -- what is told of events
 abbrev told_of : Ending → Counts → Played → Outcome
 told_of ending counts p = record { written = printouts_text p.printouts ++ closing p.after.scheduler.sets ending; conclusion = concluded counts p.after.scheduler.sets ending }

@@ -1,27 +1,24 @@
 -- A line that was taken, from what it brings.
 use Rattle.std.proofs.Common.{◌≡◌, ◌⊎◌, ℕ, ◌+◌, false, Option, Some, None, List, [], ◌∷◌, ◌++◌, Result, Ok, Err, refl, sym, ap, subst, ◌∙◌, append-nil, inl, inr}
-use Rattle.std.specs.Prelude.{IfErr, OnErr}
+use Rattle.std.specs.Prelude.{OnErr}
 use Rattle.std.specs.declared.alloc.Global.{Global}
 use Rattle.std.specs.declared.rc.Rc.{Rc}
-use Rattle.mon_text.specs.declared.stop.Stop.{Stop}
-use Rattle.mon_text.specs.declared.stop.Stop.TheVariants.{Refused, Memory}
+use Rattle.mon_text.specs.declared.stop.Stop.TheVariants.{Refused}
 use Rattle.mon_catalogue.specs.Sets.{Sets}
 use Rattle.mon_device.specs.Putting.{Standing}
 use Rattle.mon_device.proofs.Putting.{puts_nothing}
 use Rattle.mon_monitor.specs.declared.monitor.Monitor.{Monitor}
 use Rattle.mon_monitor.specs.SystemStates.{SystemState}
 use Rattle.mon_monitor.specs.Abstraction.{system_of}
-use Rattle.deck_lines.specs.inner.Stops.{IfRefused}
 use Rattle.deck_lines.specs.declared.deck_error.DeckError.{DeckError}
-use Rattle.deck_syntax.specs.Sections.{Closed, stopped, stream_section, refused_early, refused_on_line}
-use Rattle.scheduler.specs.Marks.{Marks}
+use Rattle.deck_syntax.specs.Sections.{Closed, stopped, stream_section}
 use Rattle.deck_reader.specs.declared.front_reader.Front.{Front}
 use Rattle.deck_reader.specs.declared.front_reader.FrontReader.{FrontReader}
 use Rattle.deck_reader.specs.declared.stream_reader.StreamReader.{StreamReader}
 use Rattle.deck_reader.specs.declared.stream_reader.StreamReader.TheVariants.{Cards}
 use Rattle.deck_reader.specs.declared.stream_reader.Event.{Event}
 use Rattle.deck_reader.specs.declared.stream_reader.Event.TheVariants as event
-use Rattle.deck_reader.specs.Reading.{deck_ahead, deck_behind, accounts_read}
+use Rattle.deck_reader.specs.Reading.{deck_ahead, deck_behind}
 use Rattle.deck_reader.specs.Events.{cards_ahead, event_then}
 use Rattle.deck_driver.specs.declared.options.Counts.{Counts}
 use Rattle.deck_driver.specs.declared.options.Options.{Options}
@@ -31,10 +28,9 @@ use Rattle.deck_driver.specs.declared.section.DeckState.{DeckState}
 use Rattle.deck_driver.specs.declared.section.DeckState.TheVariants as state
 use Rattle.deck_driver.specs.RunStates.{RunState, over, opening, nothing_counted, both_counted}
 use Rattle.deck_driver.specs.Printouts.{answer_to}
-use Rattle.deck_driver.specs.Feeds.{run_state_from, refused_from, outcome, outcome_of, refused_at, behind, is_reading, Good}
-use Rattle.deck_driver.proofs.Following.{outcome_refused, told_refused}
+use Rattle.deck_driver.specs.Feeds.{run_state_from, outcome_of, behind, is_reading, Good}
 use Rattle.deck_driver.specs.Audits.{told_to, told_from}
-use Rattle.deck_driver.specs.inner.Lines.{TookLine, LineBreaks, IsOver, GoesOn, Served, ServeBreaks, Stopping, StopBreaks}
+use Rattle.deck_driver.specs.inner.Lines.{TookLine, LineBreaks, IsOver, GoesOn, ServeBreaks, Stopping, StopBreaks}
 
 -- nothing happened
 unmoved : (options : Options) (s s' : Section) (line out : List ℕ) (counts : Counts) (a : Standing)
@@ -87,25 +83,6 @@ front_over options s r r' o whole s' line out counts a here is goes begun =
     ∙ ap (opening options.slots.number) (sym (goes n ls ∙ ap (λ (x : Option Front). deck_behind r' x (n + 1) ls) is))) in
     took_at options s (state.Reading (section.Front r)) s' line out out counts counts a a here
     (subst (λ (x : DeckState). TookLine options (state.Reading (section.Front r)) line out counts x out counts a a) (sym begun.1) took)
-
--- what a line of the stream brings happened
-pub card_taken : (options : Options) (r r' : StreamReader) (v w w' : Monitor) (line before after : List ℕ) (counts counts' : Counts) (a b : Standing) (e : Event) → w ≡ v
-    → ((n : ℕ) → (ls : List (List ℕ)) → cards_ahead r n (line ∷ ls) ≡ event_then e (cards_ahead r' (n + 1) ls))
-    → Served options.check e (system_of w) before counts (system_of w') after counts' a b
-    → TookLine options (state.Reading (section.Stream r v)) line before counts (state.Reading (section.Stream r' w')) after counts' a b
-card_taken options r r' v w w' line before after counts counts' a b e kept brings served =
-    subst (λ (m : Monitor). TookLine options (state.Reading (section.Stream r m)) line before counts (state.Reading (section.Stream r' w')) after counts' a b) kept
-    (record {
-      marks = served.marks;
-      is = λ rest n ls.
-          served.is rest (cards_ahead r' (n + 1) ls)
-          ∙ ap (λ cards. behind before counts (outcome_of options.check counts.jobs (served.marks ++ rest) (over (system_of w) cards))) (sym (brings n ls));
-      lines = served.lines;
-      tells = λ rest n ls.
-          ap (λ cards. told_to options.check counts.jobs (served.marks ++ rest) (over (system_of w) cards)) (brings n ls)
-          ∙ served.tells rest (cards_ahead r' (n + 1) ls);
-      audited = served.audited;
-    })
 
 -- or memory ran out meanwhile
 pub card_breaks : (options : Options) (r r' : StreamReader) (v w : Monitor) (line : List ℕ) (counts : Counts) (a b : Standing) (e : Event) → w ≡ v
@@ -162,45 +139,6 @@ stop_breaks_on options r r' v w e line counts a b kept stops brings broken =
       audited = broken.audited;
     })
 
--- a line is refused where the deck is still read
-pub refused_there : (options : Options) (s : DeckState) (t : Section) (line : List ℕ) (stop : Stop DeckError) → s ≡ state.Reading t
-    → IfRefused (λ code. (n : ℕ) → (ls : List (List ℕ)) → run_state_from options.slots.number t n (line ∷ ls) ≡ refused_from options.slots.number t n code) stop
-    → IfRefused (λ code. (jobs : ℕ) → (m : Marks) → (n : ℕ) → (ls : List (List ℕ)) → outcome options jobs m s n (line ∷ ls) ≡ refused_at n code) stop
-refused_there options s t line Memory here refused = tt
-refused_there options s t line (Refused code) here refused = λ jobs m n ls.
-    ap (λ (v : DeckState). outcome options jobs m v n (line ∷ ls)) here ∙ ap (outcome_of options.check jobs m) (refused n ls) ∙ outcome_refused options.check options.slots.number jobs m t n code
-
-pub unsaid_there : (options : Options) (s : DeckState) (t : Section) (line : List ℕ) (stop : Stop DeckError) → s ≡ state.Reading t
-    → IfRefused (λ code. (n : ℕ) → (ls : List (List ℕ)) → run_state_from options.slots.number t n (line ∷ ls) ≡ refused_from options.slots.number t n code) stop
-    → IfRefused (λ code. (jobs : ℕ) → (m : Marks) → (n : ℕ) → (ls : List (List ℕ)) → told_from options jobs m s n (line ∷ ls) ≡ []) stop
-unsaid_there options s t line Memory here refused = tt
-unsaid_there options s t line (Refused code) here refused = λ jobs m n ls.
-    ap (λ (v : DeckState). told_from options jobs m v n (line ∷ ls)) here ∙ ap (told_to options.check jobs m) (refused n ls) ∙ told_refused options.check options.slots.number jobs m t n code
-
-pub still_silent : (options : Options) (s : DeckState) (line : List ℕ) (stop : Stop DeckError) (a b : Standing) → b ≡ a
-    → IfRefused (λ code. (jobs : ℕ) → (m : Marks) → (n : ℕ) → (ls : List (List ℕ)) → told_from options jobs m s n (line ∷ ls) ≡ []) stop
-    → IfRefused (λ code. (b ≡ a) × ((jobs : ℕ) → (m : Marks) → (n : ℕ) → (ls : List (List ℕ)) → told_from options jobs m s n (line ∷ ls) ≡ [])) stop
-still_silent options s line Memory a b same silent = tt
-still_silent options s line (Refused code) a b same silent = (same, silent)
-
-pub silent_there : (options : Options) (s : DeckState) (t : Section) (line : List ℕ) (stop : Stop DeckError) (a b : Standing) → s ≡ state.Reading t → b ≡ a
-    → IfRefused (λ code. (n : ℕ) → (ls : List (List ℕ)) → run_state_from options.slots.number t n (line ∷ ls) ≡ refused_from options.slots.number t n code) stop
-    → IfRefused (λ code. (b ≡ a) × ((jobs : ℕ) → (m : Marks) → (n : ℕ) → (ls : List (List ℕ)) → told_from options jobs m s n (line ∷ ls) ≡ [])) stop
-silent_there options s t line stop a b here same refused = still_silent options s line stop a b same (unsaid_there options s t line stop here refused)
-
--- from where a front or a stream is read
-pub front_refused : (slots : ℕ) (r : FrontReader) (line : List ℕ) (stop : Stop DeckError)
-    → IfRefused (λ code. (n : ℕ) → (ls : List (List ℕ)) → deck_ahead r n (line ∷ ls) ≡ refused_early n code (accounts_read r)) stop
-    → IfRefused (λ code. (n : ℕ) → (ls : List (List ℕ)) → run_state_from slots (section.Front r) n (line ∷ ls) ≡ refused_from slots (section.Front r) n code) stop
-front_refused slots r line Memory refused = tt
-front_refused slots r line (Refused code) refused = λ n ls. ap (opening slots) (refused n ls)
-
-pub stream_refused : (slots : ℕ) (r : StreamReader) (w : Monitor) (line : List ℕ) (stop : Stop DeckError)
-    → IfRefused (λ code. (n : ℕ) → (ls : List (List ℕ)) → cards_ahead r n (line ∷ ls) ≡ refused_on_line n code) stop
-    → IfRefused (λ code. (n : ℕ) → (ls : List (List ℕ)) → run_state_from slots (section.Stream r w) n (line ∷ ls) ≡ refused_from slots (section.Stream r w) n code) stop
-stream_refused slots r w line Memory refused = tt
-stream_refused slots r w line (Refused code) refused = λ n ls. ap (over (system_of w)) (refused n ls)
-
 -- what is not the deck's end goes on
 pub goes_on : (e : Event) → (e ≡ event.Stops → ⊥) → GoesOn e
 goes_on event.Nothing other = tt
@@ -234,11 +172,6 @@ errs_silently (Err e) options s line counts a = record {
   tells = λ rest n ls. (told_from options counts.jobs rest s n (line ∷ ls), refl);
   audited = puts_nothing a;
 }
-
-pub refused_silently : {T : Type 0} (r : Result T (Stop DeckError)) (a : Standing) → IfErr r (IfRefused (λ code. a ≡ a))
-refused_silently (Ok x) a = tt
-refused_silently (Err (Refused code)) a = refl
-refused_silently (Err Memory) a = tt
 
 pub on_err : {T E P : Type 0} (r : Result T E) → P → OnErr r P
 on_err (Ok x) h = tt

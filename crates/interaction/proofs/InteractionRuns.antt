@@ -3,19 +3,6 @@ use Rattle.std.proofs.Common.{◌≡◌, List, [], ◌∷◌, ◌++◌, refl, ap
 use Rattle.interaction.specs.Interactions.{Interaction, Returns, Asks}
 use Rattle.interaction.specs.Exchanges.{Exchange, replies, IsTrace, IsTracePrefix, AnswersAll}
 
--- a meaning in terms of another
-pub answered_as : {S S' Q R : Type 0} (meaning : S → Q → R → S → Type 0) (meaning' : S' → Q → R → S' → Type 0) (seen : S → S')
-    → ((a : S) (q : Q) (r : R) (b : S) → meaning a q r b → meaning' (seen a) q r (seen b))
-    → (s : S) (x : List (Exchange Q R)) (s' : S) → AnswersAll meaning s x s' → AnswersAll meaning' (seen s) x (seen s')
-answered_as meaning meaning' seen same s [] s' h = ap seen h
-answered_as meaning meaning' seen same s (e ∷ x) s' h =
-    (seen h.0, same s e.asked e.reply h.0 h.1, answered_as meaning meaning' seen same h.0 x s' h.2)
-
-pub answered_append : {S Q R : Type 0} (meaning : S → Q → R → S → Type 0) (s : S) (x y : List (Exchange Q R)) (m s' : S)
-    → AnswersAll meaning s x m → AnswersAll meaning m y s' → AnswersAll meaning s (x ++ y) s'
-answered_append meaning s [] y m s' h g = subst (λ (z : _). AnswersAll meaning z y s') h g
-answered_append meaning s (e ∷ x) y m s' h g = (h.0, h.1, answered_append meaning h.0 x y m s' h.2 g)
-
 -- two interactions with the same replies
 pub alike : {Q R A : Type 0} (fits : Q → R → Type 0) (t : Interaction Q R A) (x y : List (Exchange Q R)) (b c : A)
     → IsTrace fits t x b → IsTrace fits t y c → replies x ≡ replies y → (x ≡ y) × (b ≡ c)
@@ -58,16 +45,6 @@ alike_first {Q} {R} fits (Asks q f) (d ∷ x) (e ∷ y) u v b c h g same =
     let heads : d ≡ e = ap (λ (q : Q). let z : Exchange Q R = record { asked = q; reply = d.reply } in z) (h.0 ∙ sym g.0)
     ∙ ap (λ (r : R). let z : Exchange Q R = record { asked = e.asked; reply = r } in z) reply in
     (cc (heads, rest.0), rest.1)
-
--- if each reply of the one can be given by the other, from states that agree, all of them can
-pub answered_too : {S S' Q R : Type 0} (meaning : S → Q → R → S → Type 0) (meaning' : S' → Q → R → S' → Type 0) (agree : S → S' → Type 0)
-    → ((a : S) (a' : S') (q : Q) (r : R) (b : S) → agree a a' → meaning a q r b → (b' : S') × meaning' a' q r b' × agree b b')
-    → (s : S) (s' : S') (x : List (Exchange Q R)) (t : S) → agree s s' → AnswersAll meaning s x t → (t' : S') × AnswersAll meaning' s' x t' × agree t t'
-answered_too meaning meaning' agree can s s' [] t same h = (s', refl, subst (λ (z : _). agree z s') (sym h) same)
-answered_too meaning meaning' agree can s s' (e ∷ x) t same h =
-    let one = can s s' e.asked e.reply h.0 same h.1 in
-    let rest = answered_too meaning meaning' agree can h.0 one.0 x t one.2 h.2 in
-    (rest.0, (one.0, one.1, rest.1), rest.2)
 
 -- with who has one reply to each question there is one run
 pub one_run : {S Q R A : Type 0} (meaning : S → Q → R → S → Type 0) (fits : Q → R → Type 0)

@@ -1,22 +1,13 @@
 -- The first text that waits is answered.
-use Rattle.std.proofs.Common.{◌≡◌, ℕ, true, List, [], ◌∷◌, map, Some, None, refl, ap, ◌∙◌, arith}
-use Rattle.std.proofs.lemmas.Bool.Decides.{nat_tests}
+use Rattle.std.proofs.Common.{◌≡◌, ℕ, List, [], ◌∷◌, Some, None, refl, ap, ◌∙◌}
 use Rattle.ledger_text.specs.Records as said
 use Rattle.ledger_laws.specs.Course as course
 use Rattle.ledger_run.specs.declared.event.Event.{Event as Made}
 use Rattle.ledger_run.specs.declared.event.Event.TheVariants as code
-use Rattle.ledger_run.specs.declared.ledger.Waiting.{Waiting}
 use Rattle.ledger_run.specs.Meaning.{Event}
-use Rattle.ledger_run.specs.Runs.{Seen, waits_as}
-use Rattle.ledger_run.specs.Following.{seen_event, first_number, is_number, first_answered, after_event, with_commit}
+use Rattle.ledger_run.specs.Runs.{Seen}
+use Rattle.ledger_run.specs.Following.{seen_event, first_number, first_answered, after_event, with_commit}
 use Rattle.ledger_run.specs.Attempts.{Recorded, FirstAnswered}
-
--- the one that is first has this number
-pub is_first : (x : Waiting) (rest : List Waiting) (n : ℕ) → is_number n (first_number (map waits_as (x ∷ rest))) ≡ true → n ≡ x.number
-is_first x rest n e = grind (arith, nat_tests, e)
-
-pub none_first : (n : ℕ) → is_number n (first_number []) ≡ true → ⊥
-none_first n e = cc (e)
 
 pub none_waits : (waiting : List (ℕ × List ℕ)) → None ≡ first_number waiting → waiting ≡ []
 none_waits [] e = refl

@@ -1,5 +1,5 @@
 -- One event behind the others.
-use Rattle.std.proofs.Common.{◌≡◌, ◌<◌, ◌≤◌, ◌^◌, ℕ, ◌+◌, ◌-◌, Bool, true, false, List, [], ◌∷◌, ◌++◌, Some, None, refl, sym, ap, ◌∙◌, subst, arith}
+use Rattle.std.proofs.Common.{◌≡◌, ◌≤◌, ◌^◌, ℕ, ◌-◌, Bool, true, false, List, [], ◌∷◌, ◌++◌, Some, None, refl, sym, ap, ◌∙◌, subst, arith}
 use Rattle.std.specs.Prelude.{if◌then◌else◌, ◌==◌, ◌&&◌, nat_le, nat_lt}
 use Rattle.std.proofs.lemmas.Bool.Decides.{nat_tests}
 use Rattle.ledger_text.specs.Records as said
@@ -58,14 +58,6 @@ beyond next n h = by (nat_le next n) refl (nat_lt n (2 ^ 64 - 1)) h
     by true e b h = grind (arith, nat_tests, e)
     by false e b h = absurd (cc (h))
 
-pub room_behind : (next n : ℕ) → is_free next n ≡ true → n + 1 < 2 ^ 64
-room_behind next n h = by (nat_le next n) (nat_lt n (2 ^ 64 - 1)) refl h
-  where
-    by : (a b : Bool) → nat_lt n (2 ^ 64 - 1) ≡ b → (a && b) ≡ true → n + 1 < 2 ^ 64
-    by true true e h = grind (arith, nat_tests, e)
-    by true false e h = absurd (cc (h))
-    by false b e h = absurd (cc (h))
-
 record IsAhead (n : ℕ) (waiting : List (ℕ × List ℕ)) : Type 0 where
   text : List ℕ
   rest : List (ℕ × List ℕ)
@@ -110,11 +102,6 @@ module _ (step : Step) (seen : Seen) (behind : List (List ℕ)) where
 
   told_none : Tells step None seen behind
   told_none = record { tells = λ other e kept is. absurd (cc (e)) }
-
-  pub tells_of : (n : ℕ) (text printout change : List ℕ) (rest : List (ℕ × List ℕ)) → seen.waiting ≡ (n, text) ∷ rest → step text behind ≡ (printout, change)
-      → Tells step (Some (course.Ran n printout change)) seen behind
-  tells_of n text printout change rest first told =
-      told_alone (course.Ran n printout change) (λ kept is. told_of step seen behind kept n text printout change rest is first told)
 
   pub untold : (one : Said) (change : List ℕ) → runs one ≡ false → Tells step (event_of one change) seen behind
   untold (said.Took n account uid name text) change e = told_alone (course.Took n text) (λ kept is. tt)

@@ -226,9 +226,6 @@ module _ {D : Type 0} (calls : D → List Call) where
   pub looked_any : (name : Name) (found : Option Identity) (old new : D) → Did calls (Looked name found ∷ []) old new → Looks calls (λ which. Unit {0}) old new
   looked_any name found old new did = looks_so calls (λ which. found ≡ (which name).now) Anything old new (λ which told. tt) (look_one calls name found old new did)
 
-  pub next_any : (from : ℕ) (found : Option ℕ) (old new : D) → Did calls (Next from found ∷ []) old new → Looks calls (λ which. Unit {0}) old new
-  next_any from found old new did = looks_so calls (IsNext from found) Anything old new (λ which told. tt) (next_one calls from found old new did)
-
   pub adds_file : (number : ℕ) (one : Identity) (found : Option Identity) (files : List Identity) (old new : D) → found ≡ Some one → Did calls (Looked (Claimed number) found ∷ []) old new
       → Looks calls (Adds number files (files ++ one ∷ [])) old new
   adds_file number one found files old new is did =

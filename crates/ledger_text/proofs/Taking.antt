@@ -1,7 +1,6 @@
 -- How bytes, numbers and fields are taken from the front of a text.
-use Rattle.std.proofs.Common.{◌≡◌, ◌<◌, ◌≤◌, ℕ, zero, suc, ◌+◌, ◌-◌, ◌*◌, ◌^◌, Bool, true, false, List, [], ◌∷◌, ◌++◌, length, take, drop, map, get_or, slice_index, Option, Some, None, refl, sym, ap, ◌∙◌, arith}
-use Rattle.std.specs.Prelude.{if◌then◌else◌, ◌==◌, ◌&&◌, nat_le, nat_lt}
-use Rattle.std.proofs.lemmas.Bool.Decides.{nat_tests}
+use Rattle.std.proofs.Common.{◌≡◌, ◌<◌, ◌≤◌, ℕ, zero, suc, ◌+◌, ◌-◌, Bool, true, false, List, [], ◌∷◌, ◌++◌, length, take, drop, map, get_or, slice_index, Option, Some, None, refl, sym, ap, ◌∙◌, arith}
+use Rattle.std.specs.Prelude.{if◌then◌else◌, ◌==◌}
 use Rattle.std.proofs.lemmas.List.{take_all, take_more, length-drop, map-append}
 use Rattle.ledger_text.specs.Text.{field_text, fields_text, read_number, with_byte, read_bytes, field_at, with_field, and_fields, read_fields, whole}
 
@@ -41,26 +40,6 @@ bytes_found n xs less e = ap (parts (take n xs)) (take_all (length xs - (n + 1))
     next = omega arith
 
 -- ---- numbers
-
-pub number_ends : (m c : ℕ) (rest : List ℕ) → c ≡ 10 → read_number m (c ∷ rest) ≡ Some (m, rest)
-number_ends m c rest e = ap (λ (c : ℕ). read_number m (c ∷ rest)) e
-
-pub number_goes : (m c : ℕ) (rest : List ℕ) → (c == 10) ≡ false → (nat_le 48 c && nat_le c 57) ≡ true → m < 2 ^ 60 → read_number m (c ∷ rest) ≡ read_number (10 * m + (c - 48)) rest
-number_goes m c rest line digit less = by (c == 10) line (nat_le 48 c && nat_le c 57) digit (nat_lt m (2 ^ 60)) (grind (arith, nat_tests, less))
-  where
-    by : (a : Bool) → a ≡ false → (b : Bool) → b ≡ true → (l : Bool) → l ≡ true → (if a then Some (m, rest) else (if b && l then read_number (10 * m + (c - 48)) rest else None)) ≡ read_number (10 * m + (c - 48)) rest
-    by false e true f true g = refl
-    by true e b f l g = absurd (cc (e))
-    by false e false f l g = absurd (cc (f))
-    by false e true f false g = absurd (cc (g))
-
-pub number_stops : (m c : ℕ) (rest : List ℕ) → (c == 10) ≡ false → ((nat_le 48 c && nat_le c 57) && nat_lt m (2 ^ 60)) ≡ false → read_number m (c ∷ rest) ≡ None
-number_stops m c rest line other = by (c == 10) line ((nat_le 48 c && nat_le c 57) && nat_lt m (2 ^ 60)) other
-  where
-    by : (a : Bool) → a ≡ false → (b : Bool) → b ≡ false → (if a then Some (m, rest) else (if b then read_number (10 * m + (c - 48)) rest else None)) ≡ None
-    by false e false f = refl
-    by true e b f = absurd (cc (e))
-    by false e true f = absurd (cc (f))
 
 -- ---- fields
 
@@ -109,13 +88,6 @@ at_end fields count [] e = ap (λ (k : ℕ). whole (behind fields (read_fields k
     none : count - count ≡ 0
     none = omega arith
 at_end fields count (c ∷ rest) e = absurd (omega (arith, e))
-
-pub not_at_end : (fields : List (List ℕ)) (count : ℕ) (rest : List ℕ) → 0 < length rest → whole (behind fields (read_fields (count - count) rest)) ≡ None
-not_at_end fields count [] e = absurd (omega (arith, e))
-not_at_end fields count (c ∷ rest) e = ap (λ (k : ℕ). whole (behind fields (read_fields k (c ∷ rest)))) none
-  where
-    none : count - count ≡ 0
-    none = omega arith
 
 -- ---- printing
 

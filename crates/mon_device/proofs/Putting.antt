@@ -1,8 +1,7 @@
 -- Texts that are put to a sink one after the other.
-use Rattle.std.proofs.Common.{◌≡◌, ◌<◌, ◌≤◌, ℕ, ◌+◌, List, [], ◌∷◌, ◌++◌, Bool, true, false, true≢false, length, take, Option, Some, refl, sym, ap, subst, ◌∙◌, append_assoc, append-nil, get_or}
+use Rattle.std.proofs.Common.{◌≡◌, ◌<◌, ◌≤◌, ℕ, ◌+◌, List, [], ◌∷◌, ◌++◌, Bool, true, false, true≢false, length, take, Option, refl, sym, ap, subst, ◌∙◌, append_assoc, append-nil, get_or}
 use Rattle.std.specs.List.{flat_map}
-use Rattle.std.specs.Option.{unwrap_or}
-use Rattle.std.proofs.lemmas.List.{take_more, take_all, take_at}
+use Rattle.std.proofs.lemmas.List.{take_more, take_all}
 use Rattle.std.proofs.lemmas.Grind.{flat_map-append}
 use Rattle.mon_device.specs.Devices.{holding, HasTaken}
 use Rattle.mon_device.specs.Putting.{Standing, Puts}
@@ -78,17 +77,6 @@ puts_gathered a b text sound is =
       apart = (refl, refl, refl);
     })
 
--- what was gathered and the text are written, or a beginning of them
-pub puts_written : (a b : Standing) (text rest : List ℕ) → a.failed ≡ false → HasTaken a.written b.written (a.gathered ++ text) rest → (b.failed ≡ false → rest ≡ b.gathered)
-    → (b.remaining ≡ a.remaining) × (b.reads ≡ a.reads) × (b.lent ≡ a.lent) → Puts a b text
-puts_written a b text rest sound taken all apart = record {
-  rest = rest;
-  taken = taken;
-  all = λ after. (sound, all after);
-  stays = λ failed. absurd (true≢false (sym failed ∙ sound));
-  apart = apart;
-}
-
 -- a sink that has failed takes nothing
 pub puts_failed : (a b : Standing) (text : List ℕ) → a.failed ≡ true → b ≡ a → Puts a b text
 puts_failed a b text failed is =
@@ -117,27 +105,6 @@ puts_each f xs i x a b c inside is so_far one = puts_each_at f xs i x x a b c in
 pub puts_all : {X : Type 0} (f : X → List ℕ) (xs : List X) (i : ℕ) (a b : Standing) → length xs ≤ i → Puts a b (flat_map f (take i xs)) → Puts a b (flat_map f xs)
 puts_all f xs i a b whole puts = puts_same a b (flat_map f (take i xs)) (flat_map f xs) (ap (flat_map f) (take_all i xs whole)) puts
 
--- what was put to a sink that had gathered nothing, and has nothing gathered now, was written
-pub all_put : (a b : Standing) (text : List ℕ) → Puts a b text → a.gathered ≡ [] → b.failed ≡ false → b.gathered ≡ [] → b.written ≡ holding a.written text
-all_put a b text puts empty sound settled =
-    let all : text ≡ puts.taken.0 =
-    ap (λ (v : List ℕ). v ++ text) (sym empty) ∙ puts.taken.2 ∙ ap (λ (v : List ℕ). puts.taken.0 ++ v) ((puts.all sound).1 ∙ settled) ∙ append-nil puts.taken.0 in
-    puts.taken.1 ∙ ap (λ (v : List ℕ). holding a.written v) (sym all)
-
 -- and else a beginning of it
 pub begun_put : (a b : Standing) (text : List ℕ) → Puts a b text → a.gathered ≡ [] → (rest : List ℕ) × HasTaken a.written b.written text rest
 begun_put a b text puts empty = (puts.rest, (puts.taken.0, puts.taken.1, ap (λ (v : List ℕ). v ++ text) (sym empty) ∙ puts.taken.2))
-
-of_some : (a b : List ℕ) → Some a ≡ Some b → a ≡ b
-of_some a b same = ap (λ (v : Option (List ℕ)). unwrap_or v []) same
-
--- a text that holds what it is given has all of it
-pub text_put : (a b : Standing) (before after text : List ℕ) → Puts a b text → a.written ≡ Some before → b.written ≡ Some after → a.gathered ≡ [] → b.failed ≡ false → b.gathered ≡ [] → after ≡ before ++ text
-text_put a b before after text puts first last empty sound settled =
-    of_some after (before ++ text) (sym last ∙ all_put a b text puts empty sound settled ∙ ap (λ (v : Option (List ℕ)). holding v text) first)
-
--- and begins with what it held
-pub text_begun : (a b : Standing) (before after text : List ℕ) → Puts a b text → a.written ≡ Some before → b.written ≡ Some after → take (length before) after ≡ before
-text_begun a b before after text puts first last =
-    let now : after ≡ before ++ puts.taken.0 = of_some after (before ++ puts.taken.0) (sym last ∙ puts.taken.1 ∙ ap (λ (v : Option (List ℕ)). holding v puts.taken.0) first) in
-    ap (λ (v : List ℕ). take (length before) v) now ∙ take_at before puts.taken.0 (length before) refl

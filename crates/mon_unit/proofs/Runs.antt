@@ -1,40 +1,18 @@
 -- What follows for a whole interaction from what holds of each question and its reply.
 use Rattle.std.proofs.Common.{◌≡◌, ℕ, zero, suc, List, [], ◌∷◌, refl, ap, ◌∙◌, subst}
 use Rattle.interaction.specs.Interactions.{Interaction, Returns, Asks, ◌>>=◌}
-use Rattle.interaction.specs.Exchanges.{Exchange, IsTrace, AnswersAll}
 use Rattle.interaction.specs.declared.request.Request.{Request}
 use Rattle.interaction.specs.declared.answer.Answer.{Answer}
 use Rattle.interaction.specs.declared.answer.Answer.TheVariants.{Done}
 use Rattle.interaction.specs.Fitting.{Fits}
 use Rattle.interaction.specs.Counting.{Moment, Beginning, Requesting, Counted, Passed, IsTracePrefix}
-use Rattle.mon_unit.specs.Runs.{run, run_cut, exchanges, passed}
+use Rattle.mon_unit.specs.Runs.{run, run_cut, passed}
 
 -- one interaction after the other
 pub run_bind : {S Q R A B : Type 0} (reply : S → Q → R × S) (t : Interaction Q R A) (k : A → Interaction Q R B) (s : S)
     → run reply (t >>= k) s ≡ run reply (k (run reply t s).0) (run reply t s).1
 run_bind reply (Returns a) k s = refl
 run_bind reply (Asks q f) k s = run_bind reply (f (reply s q).0) k (reply s q).1
-
--- what was told and answered is the run, where the meaning is a function
-pub told_is_run : {S Q R A : Type 0} (meaning : S → Q → R → S → Type 0) (fits : Q → R → Type 0) (reply : S → Q → R × S)
-    → ((s : S) (q : Q) (r : R) (m : S) → meaning s q r m → reply s q ≡ (r, m))
-    → (t : Interaction Q R A) (s : S) (x : List (Exchange Q R)) (b : A) (s' : S) → AnswersAll meaning s x s' → IsTrace fits t x b → run reply t s ≡ (b, s')
-told_is_run meaning fits reply is (Returns a) s [] b s' h g = cc (h, g)
-told_is_run meaning fits reply is (Returns a) s (e ∷ x) b s' h g = absurd g
-told_is_run meaning fits reply is (Asks q f) s [] b s' h g = absurd g
-told_is_run {S} {Q} {R} {A} meaning fits reply is (Asks q f) s (e ∷ x) b s' h g =
-    let one : reply s q ≡ (e.reply, h.0) = subst (λ (k : Q). reply s k ≡ (e.reply, h.0)) g.0 (is s e.asked e.reply h.0 h.1) in
-    let rest = told_is_run meaning fits reply is (f e.reply) h.0 x b s' h.2 g.2 in
-    ap (λ (p : R × S). run reply (f p.0) p.1) one ∙ rest
-
--- the run is told, and answered
-pub run_is_told : {S Q R A : Type 0} (reply : S → Q → R × S) (t : Interaction Q R A) (s : S)
-    → AnswersAll (λ (s : S) (q : Q) (r : R) (m : S). reply s q ≡ (r, m)) s (exchanges reply t s) (run reply t s).1
-    × IsTrace (λ (q : Q) (r : R). Unit {0}) t (exchanges reply t s) (run reply t s).0
-run_is_told reply (Returns a) s = (refl, refl)
-run_is_told reply (Asks q f) s =
-    let rest = run_is_told reply (f (reply s q).0) (reply s q).1 in
-    (((reply s q).1, refl, rest.0), (refl, tt, rest.1))
 
 -- what each reply keeps
 pub run_keeps : {S Q R A : Type 0} (reply : S → Q → R × S) (P : S → Type 0) → ((s : S) (q : Q) → P s → P (reply s q).1)

@@ -173,9 +173,6 @@ module _ (own : List ℕ) (ls : List (List ℕ)) where
       let here = same_place n m why other one two in
       same_refusal n m why other here (same_reason n why other (told n why one.wrong) (told n other (subst (λ (k : ℕ). IsWrong own k ls other) (sym here) two.wrong)))
 
-  same_asked : (asked others : List Asked) → asked ≡ others → Admits asked ≡ Admits others
-  same_asked asked others is = ap Admits is
-
   pub only_one : (v w : Verdict) → IsVerdict own ls v → IsVerdict own ls w → w ≡ v
   only_one (Admits asked) (Admits others) one two = sym ((admits_exactly own ls others).1 two) ∙ (admits_exactly own ls asked).1 one
   only_one (Admits asked) (Refuses n why) one two = absurd (none_whole n (ends n why two.wrong) asked one)

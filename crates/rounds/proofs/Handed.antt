@@ -1,31 +1,12 @@
 -- The text of a round's parts, line by line.
-use Rattle.std.proofs.Common.{◌≡◌, ℕ, ◌+◌, ◌-◌, ◌<◌, ◌⊎◌, inl, inr, List, [], ◌∷◌, ◌++◌, length, map, drop, get_or, flat_map, refl, sym, ap, ◌∙◌, append_assoc, append-nil, arith}
+use Rattle.std.proofs.Common.{◌≡◌, ℕ, ◌-◌, ◌⊎◌, inl, inr, List, [], ◌∷◌, ◌++◌, length, map, flat_map, refl, sym, ap, ◌∙◌, append_assoc, append-nil, arith}
 use Rattle.std.specs.Prelude.{codes, Result, Ok, Err, OnOk}
-use Rattle.std.proofs.lemmas.List.{drop_more}
 use Rattle.std.proofs.lemmas.List.Concat.{flat_map-append}
 use Rattle.site_folder.specs.Parts.{Act, Puts, act_line, parts_text}
 use Rattle.site_plan.specs.declared.taken.Taken.{Taken}
 use Rattle.site_plan.specs.declared.plan.Entry.{Entry}
-use Rattle.rounds.specs.Handing.{answer_name, reply_acts, output_acts, removal_of}
+use Rattle.rounds.specs.Handing.{reply_acts, output_acts, removal_of}
 use Rattle.rounds.proofs.Mapping.{flat_of_map}
-
--- one printout more
-pub one_printed : (begin end size at : ℕ) (entries : List Entry) (entry : Entry) (rest behind parts now all : List ℕ) → parts ++ parts_text (output_acts begin (drop at entries) rest size) ≡ all
-    → at < length entries → entry ≡ get_or entries at entry → rest ≡ end ∷ behind → now ≡ parts ++ act_line (Puts (end - begin) (answer_name entry.taken))
-    → now ++ parts_text (output_acts end (drop (at + 1) entries) behind size) ≡ all
-one_printed begin end size at entries entry rest behind parts now all so_far within here ends put =
-    ap (λ (bytes : List ℕ). bytes ++ later) put
-    ∙ append_assoc parts (act_line (Puts (end - begin) (answer_name entry.taken))) later
-    ∙ sym
-    (ap (λ (es : List Entry). parts ++ parts_text (output_acts begin es rest size)) left
-    ∙ ap (λ (ns : List ℕ). parts ++ parts_text (output_acts begin (entry ∷ drop (at + 1) entries) ns size)) ends)
-    ∙ so_far
-  where
-    later : List ℕ
-    later = parts_text (output_acts end (drop (at + 1) entries) behind size)
-
-    left : drop at entries ≡ entry ∷ drop (at + 1) entries
-    left = drop_more entries at entry within ∙ ap (λ (e : Entry). e ∷ drop (at + 1) entries) (sym here)
 
 -- no text or no printout is left
 pub all_printed : (begin size : ℕ) (left : List Entry) (rest parts now all : List ℕ) → parts ++ parts_text (output_acts begin left rest size) ≡ all → (left ≡ []) ⊎ (length rest ≡ 0)

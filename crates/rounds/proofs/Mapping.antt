@@ -1,6 +1,5 @@
 -- Lists that are made one by one, and what is seen of them.
-use Rattle.std.proofs.Common.{◌≡◌, ℕ, ◌+◌, ◌<◌, List, [], ◌∷◌, ◌++◌, map, length, take, get_or, flat_map, refl, sym, ap, ◌∙◌, append_assoc, arith}
-use Rattle.std.proofs.lemmas.List.{take_more}
+use Rattle.std.proofs.Common.{◌≡◌, List, [], ◌∷◌, ◌++◌, map, length, flat_map, refl, sym, ap, ◌∙◌, append_assoc, arith}
 
 pub nothing_left : {X : Type 0} (xs : List X) → length xs ≡ 0 → xs ≡ []
 nothing_left [] none = refl
@@ -18,13 +17,6 @@ mapped_more f g before made now from x y is so_far same =
     ∙ (ap (λ zs. zs ++ f x ∷ []) so_far
     ∙ (ap (λ z. before ++ map g from ++ z ∷ []) same
     ∙ (append_assoc before (map g from) (g y ∷ []) ∙ sym (ap (λ zs. before ++ zs) (map_both g from (y ∷ [])))))))
-
--- what was taken of a list, with the element that follows
-pub taken_more : {A B C : Type 0} (f : A → C) (g : B → C) (before : List C) (made now : List A) (from : List B) (at : ℕ) (x : A) (y : B) → now ≡ made ++ x ∷ []
-    → map f made ≡ before ++ map g (take at from) → at < length from → y ≡ get_or from at y → f x ≡ g y → map f now ≡ before ++ map g (take (at + 1) from)
-taken_more f g before made now from at x y is so_far within here same =
-    mapped_more f g before made now (take at from) x y is so_far same
-    ∙ sym (ap (λ zs. before ++ map g zs) (take_more from at y within ∙ ap (λ z. take at from ++ z ∷ []) (sym here)))
 
 pub flat_of_map : {A B C : Type 0} (f : B → List C) (g : A → B) (xs : List A) → flat_map f (map g xs) ≡ flat_map (λ x. f (g x)) xs
 flat_of_map f g [] = refl

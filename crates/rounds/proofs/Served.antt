@@ -11,7 +11,7 @@ use Rattle.deck_driver.specs.declared.options.Counts.{Counts}
 use Rattle.deck_driver.specs.declared.options.Options.{Options}
 use Rattle.deck_driver.specs.declared.section.DeckState.{DeckState}
 use Rattle.deck_driver.specs.declared.section.DeckState.TheVariants as state
-use Rattle.deck_driver.specs.Feeds.{Outcome, Good, Bad, outcome, behind, concluded, sets_left, is_reading, more}
+use Rattle.deck_driver.specs.Feeds.{Outcome, Good, Bad, outcome, concluded, sets_left, is_reading, more}
 use Rattle.mon_device.specs.Putting.{Standing, Puts}
 use Rattle.mon_device.proofs.Putting.{puts_same, puts_then}
 use Rattle.deck_driver.specs.Abstraction.{told, audit_told, Took}
@@ -67,15 +67,6 @@ took_both s t u f g h piece other a b c first second = record {
       ∙ ap (λ (v : List ℕ). first.audit ++ v) (second.tells rest bytes)
       ∙ sym (append_assoc first.audit second.audit (audit_told rest h bytes));
   audited = puts_then a b c first.audit second.audit first.audited second.audited;
-}
-
--- the piece was refused
-pub bad_piece : (before out : List ℕ) (f g : DeckFeed) (piece : List ℕ) (n : ℕ) (code : DeckError) (a b : Standing) → g.state ≡ state.Refused n code → Took [] f piece out g a b → IsBad n code before f piece
-bad_piece before out f g piece n code a b is took = record {
-  marks = took.marks;
-  is = λ rest bytes.
-      ap (λ (o : Outcome). o.conclusion) (sym (took.is rest bytes))
-      ∙ ap (λ (s : DeckState). (behind out g.counts (outcome g.options g.counts.jobs rest s (g.lines_taken + 1) (lines (g.line ++ bytes)))).conclusion) is;
 }
 
 pub bad_first : (before : List ℕ) (f : DeckFeed) (piece other : List ℕ) (n : ℕ) (code : DeckError) → IsBad n code before f piece → IsBad n code before f (piece ++ other)

@@ -1,5 +1,5 @@
 -- A text, read line by line: what is known so far, and the lines that are left, come to what the whole text comes to.
-use Rattle.std.proofs.Common.{◌≡◌, ℕ, ◌+◌, List, [], ◌∷◌, Result, Ok, Err, sym, ap, subst, ◌∙◌}
+use Rattle.std.proofs.Common.{◌≡◌, ℕ, ◌+◌, List, [], ◌∷◌, Result, Ok, Err, sym, ap, ◌∙◌}
 use Rattle.std.specs.Str.Lines.{lines}
 use Rattle.mon_text.specs.declared.stop.Stop.{Stop}
 use Rattle.mon_text.specs.declared.stop.Stop.TheVariants.{Refused, Memory}
@@ -20,23 +20,8 @@ module _ {S W : Type 0} (after : S → List ℕ → Result S W) where
   walk_stops n known rest line behind all why so_far parts bad =
       sym so_far ∙ (ap (walked after n known) parts ∙ ap (λ r. and_then (at_line n r) (λ known. walked after (n + 1) known (lines behind))) bad)
 
-  -- the end
-  pub walk_ends : (n : ℕ) (known : S) (rest : List ℕ) (all : Result S (ℕ × W)) → walked after n known (lines rest) ≡ all → rest ≡ [] → all ≡ Ok known
-  walk_ends n known rest all so_far none = sym so_far ∙ ap (λ (r : List ℕ). walked after n known (lines r)) none
-
   -- a call that stopped there
   stopped : {A : Type 0} (seen : A → S) (n : ℕ) (known : S) (rest line behind : List ℕ) (all : Result S (ℕ × W)) (stop : Stop W) → walked after n known (lines rest) ≡ all
       → lines rest ≡ line ∷ lines behind → IfStopped (λ why. after known line ≡ Err why) stop → Gives seen (Err (stop_at n stop)) all
   stopped seen n known rest line behind all (Refused why) so_far parts bad = walk_stops n known rest line behind all why so_far parts bad
   stopped seen n known rest line behind all Memory so_far parts bad = tt
-
-  pub stopped_there : {A : Type 0} (seen : A → S) (n : ℕ) (known : S) (rest line behind : List ℕ) (all : Result S (ℕ × W)) (stop : Stop W) (told : Stop (ℕ × W)) → told ≡ stop_at n stop
-      → walked after n known (lines rest) ≡ all → lines rest ≡ line ∷ lines behind → IfStopped (λ why. after known line ≡ Err why) stop → Gives seen (Err told) all
-  stopped_there seen n known rest line behind all stop told is so_far parts bad =
-      subst (λ (t : Stop (ℕ × W)). Gives seen (Err t) all) (sym is) (stopped seen n known rest line behind all stop so_far parts bad)
-
--- what comes behind a call that stopped is not done
-pub stopped_before : {S A B W : Type 0} (seen : A → B) (all : Result S (ℕ × W)) (later : S → Result B (ℕ × W)) (told : Stop (ℕ × W)) → Gives (λ (s : S). s) (Err told) all
-    → Gives seen (Err told) (and_then all later)
-stopped_before seen all later (Refused why) bad = ap (λ r. and_then r later) bad
-stopped_before seen all later Memory bad = tt

@@ -20,9 +20,6 @@ abbrev pub Longer : ℕ → Trying → Trying → Type 0
 Longer j (Returns o) t' = ((o.end ≡ OutOfSteps) × LeavesAtMost j t') ⊎ (t' ≡ Returns (record { end = o.end; left = o.left + suc j }))
 Longer j (Asks q f) t' = (f' : Told → Trying) × (t' ≡ Asks q f') × ((r : Told) → Longer j (f r) (f' r))
 
-pub as_long : (j : ℕ) (e : End) (n : ℕ) → Longer j (ends e n) (ends e (n + suc j))
-as_long j e n = inr refl
-
 module _ (j n : ℕ) (second second' : ℕ → Trying) (longer : (m : ℕ) → m ≤ n → Longer j (second m) (second' (m + suc j)))
     (falls : (m : ℕ) → m ≤ j → LeavesAtMost j (second' m)) where
   after_longer : (e : End) (m : ℕ) → m ≤ n → Longer j (after_end e m second) (after_end e (m + suc j) second')

@@ -13,11 +13,6 @@ use Rattle.sno_pattern.specs.Steps.{Goal, Meet, Failure, Trying, Way, ends, row}
 use Rattle.sno_pattern.specs.inner.Meeting.{IsQuiet, IsEntered, IsParted}
 use Rattle.mon_text.specs.Beginnings.{first_passes}
 
-abbrev IsHere : Reach → Type 0
-IsHere (Here c) = Unit {0}
-IsHere Nowhere = ⊥
-IsHere Depends = ⊥
-
 abbrev IsNowhere : Reach → Type 0
 IsNowhere (Here c) = ⊥
 IsNowhere Nowhere = Unit {0}

@@ -12,10 +12,9 @@ use Rattle.sno_pattern.specs.declared.ending.MatchEnd.TheVariants as end
 use Rattle.sno_pattern.specs.Looks.{Look, Told, Fits}
 use Rattle.sno_pattern.specs.Steps.{Goal, Meet, End, Success, Failure, Outcome, Trying, row, outcome, Finish, settle, from_starts, match_of}
 use Rattle.sno_pattern.specs.declared.choice_points.Turn.{Turn}
-use Rattle.sno_pattern.specs.declared.choice_points.Turn.TheVariants.{Go, Stay}
-use Rattle.sno_pattern.specs.declared.choice_points.Ended.{Ended}
+use Rattle.sno_pattern.specs.declared.choice_points.Turn.TheVariants.{Go}
 use Rattle.sno_pattern.specs.inner.Running.{finishing}
-use Rattle.sno_pattern.specs.inner.Stack.{Ahead, Choice, waiting_of, end_of, resume, turned, Entering, Moved}
+use Rattle.sno_pattern.specs.inner.Stack.{Ahead, Choice, waiting_of, resume, turned, Entering, Moved}
 use Rattle.sno_pattern.proofs.Table.{none_left}
 use Rattle.sno_pattern.proofs.Pushing.{resume_last, moved_as, cut_as}
 
@@ -30,25 +29,8 @@ module _ {S : Type 0} (tells : S → Look → Told → S → Type 0) (broken : S
   On t turn now n = Moved tells broken text s [] whole limit t turn now n
 
   module _ (t : S) (turn : Turn) (now : Ahead) (n : ℕ) (k : On t turn now n) where
-    pub on_turn : (u : S) (next : Turn) (new : Ahead) (m : ℕ) → Moved tells broken text t now.opens (turned text now turn n) n u next new m → On u next new m
-    on_turn u next new m d = record {
-      held = λ b v x. k.held b v (d.held b v x);
-      cut = λ v x. k.cut v (d.cut v x);
-      fewer = (let f = d.fewer in let g = k.fewer in omega arith);
-      all = d.all;
-      here = d.here;
-    }
-
-    pub on_breaks : (u : S) → StopsIn tells Fits broken (resume text now.opens (turned text now turn n)) t u → StopsIn tells Fits broken whole s u
-    on_breaks u d = k.cut u d
-
     pub on_cut : StopsIn tells Fits broken whole s t
     on_cut = k.cut t (cut_here tells Fits broken (resume text now.opens (turned text now turn n)) t)
-
-  pub on_stays : (t : S) (e : Ended) (now : Ahead) (n : ℕ) → On t (Stay e) now n → RunsTo tells Fits whole s (record { end = end_of e; left = n }) t
-  on_stays t e now n k =
-      let o : Outcome = record { end = end_of e; left = n } in
-      k.held o t (subst (λ (z : Trying). RunsTo tells Fits z t o t) (sym (k.here n)) (refl, refl))
 
   pub on_success : (t : S) (c : ℕ) (now : Ahead) (n : ℕ) → now.goals ≡ [] → On t (Go c) now n
       → RunsTo tells Fits whole s (record { end = Success c (waiting_of text now.waits); left = n }) t

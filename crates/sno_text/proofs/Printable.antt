@@ -1,6 +1,5 @@
 -- What is made of texts of ASCII 32 to 126 is one.
-use Rattle.std.proofs.Common.{◌≡◌, ℕ, zero, suc, ℤ, pos, negsuc, Bool, true, false, ◌&&◌, ◌+◌, ◌-◌, ◌%◌, ◌^◌, ◌<◌, List, [], ◌∷◌, ◌++◌, take, drop, refl, ap, ◌∙◌, arith}
-use Rattle.std.specs.List.{slice_range}
+use Rattle.std.proofs.Common.{◌≡◌, ℕ, zero, suc, ℤ, pos, negsuc, Bool, true, false, ◌&&◌, ◌+◌, ◌%◌, ◌^◌, ◌<◌, List, [], ◌∷◌, ◌++◌, take, drop, refl, ap, ◌∙◌, arith}
 use Rattle.std.specs.Fmt.{decimal, signed_decimal}
 use Rattle.std.specs.Int.Signed.{mag}
 use Rattle.std.proofs.lemmas.Fmt.{decimal_by_steps}
@@ -32,9 +31,6 @@ pub line_of_drop : (n : ℕ) (xs : List ℕ) → IsLine xs → IsLine (drop n xs
 line_of_drop zero xs h = h
 line_of_drop (suc n) [] h = refl
 line_of_drop (suc n) (c ∷ cs) h = line_of_drop n cs (second (is_printable c) _ h)
-
-pub line_of_range : (xs : List ℕ) (from to : ℕ) → IsLine xs → IsLine (slice_range xs from to)
-line_of_range xs from to h = line_of_take (to - from) (drop from xs) (line_of_drop from xs h)
 
 printable_digit : (d : ℕ) → d < 10 → is_printable (48 + d) ≡ true
 printable_digit d h = grind (arith, nat_tests)

@@ -1,9 +1,9 @@
 -- The table of what stands for each character, made from left to right, and the text that it makes.
-use Rattle.std.proofs.Common.{arith, ◌≡◌, ◌≢◌, ℕ, ◌+◌, ◌≤◌, ◌<◌, List, [], ◌∷◌, ◌++◌, length, get_or, take, set, reverse, map, refl, sym, ap, ◌∙◌, subst, Bool, true, false, cond, ◌==◌, ◌&&◌, get_or-set_same, get_or-set_other}
+use Rattle.std.proofs.Common.{arith, ◌≡◌, ◌≢◌, ℕ, ◌+◌, ◌<◌, List, [], ◌∷◌, ◌++◌, length, get_or, take, set, reverse, map, refl, sym, ap, ◌∙◌, subst, Bool, true, false, cond, ◌==◌, ◌&&◌, get_or-set_same, get_or-set_other}
 use Rattle.std.specs.Prelude.{Some, find, zip, if◌then◌else◌}
 use Rattle.std.specs.List.{list_all}
 use Rattle.std.specs.Option.{option_map_or}
-use Rattle.std.proofs.lemmas.List.{take_more, take_all, length-take, reverse-append}
+use Rattle.std.proofs.lemmas.List.{take_more, length-take, reverse-append}
 use Rattle.std.proofs.lemmas.List.Folds.{list_all-append}
 use Rattle.std.proofs.lemmas.Bool.Decides.{nat_tests}
 use Rattle.mon_text.specs.Characters.{is_printable}
@@ -55,11 +55,6 @@ pub set_one : (table from to : List ℕ) (i c : ℕ) → i < length from → len
 set_one table from to i c lt e within h =
     by_code table (get_or from i 0) (get_or to i 0) c (replacement (take i from) (take i to) c) (get_or from i 0 == c) refl within h
     ∙ sym (one_more from to i c lt e)
-
--- and its end
-pub all_set : (table from to : List ℕ) (i c : ℕ) → length from ≤ i → length from ≡ length to → get_or table c 0 ≡ replacement (take i from) (take i to) c
-    → get_or table c 0 ≡ replacement from to c
-all_set table from to i c whole e h = h ∙ (rw (take_all i from whole, take_all i to (omega arith)) refl)
 
 -- WHAT IS MADE OF A LINE IS A LINE
 

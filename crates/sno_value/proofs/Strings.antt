@@ -1,13 +1,12 @@
 -- Strings that are formed: how long they are, and what that gives.
 use Rattle.std.proofs.Common.{arith, ◌≡◌, ℕ, ◌*◌, ◌≤◌, ◌<◌, List, length, sym, ap, Bool, true, false}
-use Rattle.std.specs.Prelude.{ℤ, pos, negsuc, nat_le, nat_lt, unsigned_abs, int_lt, if◌then◌else◌}
+use Rattle.std.specs.Prelude.{nat_le, nat_lt, if◌then◌else◌}
 use Rattle.std.proofs.lemmas.Bool.Decides.{nat_tests}
 use Rattle.sno_text.proofs.Repeating.{length-repeated}
 use Rattle.sno_text.specs.declared.fault.Fault.TheVariants.{Length}
 use Rattle.sno_value.specs.declared.value.Value.TheVariants.{Text}
 use Rattle.sno_value.specs.declared.outcome.Outcome.TheVariants.{Gives, Faults}
 use Rattle.sno_value.specs.Outcomes.{string}
-use Rattle.sno_value.specs.inner.Parts.{copies}
 use Rattle.std.specs.List.{repeat}
 
 by_length : (text : List ℕ) (b : Bool) (given : Bool) → b ≡ given → (if given then Gives (Text text) else Faults Length) ≡ (if b then Gives (Text text) else Faults Length)
@@ -25,8 +24,3 @@ too_many most n text b test e = let long = length-repeated n text in too_long mo
 
 pub not_too_many : (most n : ℕ) (text : List ℕ) (b : Bool) → b ≡ nat_lt most (n * length text) → b ≡ false → Gives (Text (repeat n text)) ≡ string most (repeat n text)
 not_too_many most n text b test e = let long = length-repeated n text in not_too_long most (repeat n text) (grind (arith, nat_tests, test, e, long))
-
--- a number that is not negative counts copies
-pub copies_of : (most : ℕ) (text : List ℕ) (z : ℤ) (n : ℕ) → n ≡ unsigned_abs z → int_lt z (pos 0) ≡ false → string most (repeat n text) ≡ copies most text z
-copies_of most text (pos k) n is sign = ap (λ (m : ℕ). string most (repeat m text)) is
-copies_of most text (negsuc k) n is sign = absurd (cc)

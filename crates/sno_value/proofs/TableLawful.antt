@@ -45,9 +45,6 @@ others p q v (e ∷ es) h = by (same_place p e.0) refl (others p q v es h)
 pub others_stay : OthersStay
 others_stay p q v ts h = ap (λ (o : Option Value). unwrap_or o (Text [])) (others p q v ts.items h)
 
-some_key : (a : Value) (k l : Key) → Some k ≡ Some l → k ≡ l
-some_key a k l e = cc
-
 pub same_where_identical : SameWhereIdentical
 same_where_identical (Text s) (Text t) k l g h = let a : key.Text s ≡ k = cc in let b : key.Text t ≡ l = cc in rw (sym a, sym b) refl
 same_where_identical (Text s) (Integer n) k l g h = let a : key.Text s ≡ k = cc in let b : key.Integer n ≡ l = cc in rw (sym a, sym b) refl

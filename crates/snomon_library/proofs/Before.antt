@@ -81,9 +81,6 @@ module _ (texts : List (List ℕ)) (at : ℕ) (word : List ℕ) (rest : List (Li
         with_file name file ∙ ap (λ (a : Option Asked). option_map (onto (take at texts)) a) (for_file name rest is)
         ∙ (λ i. Some (record { left = sym left_is i; file = Some (sym same_is i) }))
 
-    pub file_refused : (name : List ℕ) → file_in word ≡ Some name → is_file name ≡ false → audit_of texts ≡ None
-    file_refused name file is = with_file name file ∙ ap (λ (a : Option Asked). option_map (onto (take at texts)) a) (for_none name rest is)
-
     module _ (no_file : file_in word ≡ None) (stands : stands_out word ≡ true) where
       asks : is_option word ≡ true
       asks = (λ i. sym no_end i || (is_some (sym no_file i) || is_option word)) ∙ stands
@@ -149,10 +146,3 @@ left_of (Some asked) = asked.left
 pub none_given : (words left : List (List ℕ)) (file : Option (List ℕ)) → audit_of words ≡ Some (record { left = left; file = file }) → ((options : Options) → Gives left options → ⊥)
     → (options : Options) (other : Option (List ℕ)) → GivesAll words options other → ⊥
 none_given words left file took none options other all = none options (subst (λ (l : List (List ℕ)). Gives l options) (ap left_of (sym all.1 ∙ took)) all.2)
-
--- or stand without a file
-pub none_asked : (words : List (List ℕ)) → audit_of words ≡ None → (options : Options) (other : Option (List ℕ)) → GivesAll words options other → ⊥
-none_asked words took options other all = is_none (sym all.1 ∙ took)
-  where
-    is_none : {T : Type 0} {x : T} → Some x ≡ None → ⊥
-    is_none e = cc

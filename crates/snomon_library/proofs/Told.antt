@@ -1,11 +1,9 @@
 -- What is told: one line, or two, one behind the other.
-use Rattle.std.proofs.Common.{◌≡◌, List, ℕ, ◌++◌, Option, Some, None, Result, Ok, Err, OnOk, sym, ap, subst, ◌∙◌, append_assoc, refl, arith}
-use Rattle.std.specs.Prelude.{IfErr}
+use Rattle.std.proofs.Common.{◌≡◌, List, ℕ, ◌++◌, Option, Some, None, Result, Ok, Err, OnOk, sym, ap, subst, ◌∙◌, append_assoc, refl}
 use Rattle.std.specs.Io.KnownBytes.{Appends}
 use Rattle.deck_driver.specs.declared.fault.RunError.{RunError}
 use Rattle.deck_driver.specs.declared.fault.RunError.TheVariants.{DeckRefused, ReadFault, WriteFault, AuditFault, Memory}
-use Rattle.deck_driver.specs.declared.options.Counts.{Counts}
-use Rattle.deck_run.specs.Faults.{status_of, fault_line, shortage_line}
+use Rattle.deck_run.specs.Faults.{fault_line, shortage_line}
 use Rattle.deck_run.specs.declared.shortage.Shortage.{Shortage}
 use Rattle.snomon_library.specs.Endings.{told_of}
 
@@ -32,17 +30,3 @@ fault_told ReadFault given other = refl
 fault_told WriteFault given other = refl
 fault_told AuditFault given other = refl
 fault_told Memory given other = absurd (other refl)
-
--- a run never ends with the status of words that are refused
-pub never_two : (outcome : Result Counts RunError) → status_of outcome ≡ 2 → ⊥
-never_two (Ok counts) e = absurd (omega (arith, e))
-never_two (Err (DeckRefused line code)) e = absurd (omega (arith, e))
-never_two (Err ReadFault) e = absurd (omega (arith, e))
-never_two (Err WriteFault) e = absurd (omega (arith, e))
-never_two (Err AuditFault) e = absurd (omega (arith, e))
-never_two (Err Memory) e = absurd (omega (arith, e))
-
--- what holds whatever went wrong
-pub each_err : {T E : Type 0} (result : Result T E) (P : E → Type 0) → ((error : E) → P error) → IfErr result P
-each_err (Ok x) P all = tt
-each_err (Err error) P all = all error
