@@ -2,9 +2,7 @@
 use Rattle.std.proofs.Common.{◌≡◌}
 use Rattle.mon_text.specs.declared.stop.Stop.{Stop}
 use Rattle.mon_text.specs.declared.stop.Stop.TheVariants as stop
-use Rattle.access_report.specs.declared.front.Refusal.{Refusal}
-use Rattle.access_report.specs.declared.fault.Fault.TheVariants.{DeckRefused, NoAccount, NoSet, Memory}
-use Rattle.access_report.specs.Reports.{fault_of}
+use Rattle.access_report.specs.{declared.front.Refusal.{Refusal}, declared.fault.Fault.TheVariants.{DeckRefused, NoAccount, NoSet, Memory}, Reports.{fault_of}}
 
 pub no_account_of : (s : Stop Refusal) → fault_of s ≡ NoAccount → ⊥
 no_account_of (stop.Refused refusal) h = let differ : DeckRefused refusal.line refusal.code ≡ NoAccount = h in cc

@@ -1,8 +1,7 @@
 -- What is told of a list, of one element more.
 use Rattle.std.proofs.Common.{◌≡◌, ℕ, ◌+◌, ◌<◌, List, [], ◌∷◌, ◌++◌, length, take, Some, None, slice_get, sym, ap, ◌∙◌, inl, inr, arith}
 use Rattle.std.specs.List.{flat_map}
-use Rattle.std.proofs.lemmas.List.{take_more, flat_map_more}
-use Rattle.std.proofs.lemmas.Option.{slice_get_within, get_or_from_slice_get, slice_get_cases}
+use Rattle.std.proofs.lemmas.{List.{take_more, flat_map_more}, Option.{slice_get_within, get_or_from_slice_get, slice_get_cases}}
 
 -- the element at the index was told
 pub one_more : {A : Type 0} (told : A → List ℕ) (start before after : List ℕ) (xs : List A) (index : ℕ) (x : A) → slice_get xs index ≡ Some x

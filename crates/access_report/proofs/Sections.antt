@@ -4,16 +4,11 @@ use Rattle.std.specs.Str.Lines.{lines}
 use Rattle.mon_text.specs.declared.stop.Stop.{Stop}
 use Rattle.mon_text.specs.declared.stop.Stop.TheVariants as stop
 use Rattle.mon_access.specs.declared.account.Account.{Account}
-use Rattle.deck_lines.specs.declared.deck_error.DeckError.{DeckError}
-use Rattle.deck_lines.specs.declared.deck_error.DeckError.TheVariants.{Truncated}
-use Rattle.deck_syntax.specs.Decks.{Deck}
-use Rattle.deck_syntax.specs.Sections.{refused_early}
-use Rattle.access_report.specs.declared.front.Refusal.{Refusal}
-use Rattle.deck_reader.specs.declared.front_reader.FrontReader.{FrontReader}
+use Rattle.deck_lines.specs.{declared.deck_error.DeckError.{DeckError}, declared.deck_error.DeckError.TheVariants.{Truncated}, inner.Stops.{IfRefused}}
+use Rattle.deck_syntax.specs.{Decks.{Deck}, Sections.{refused_early}}
+use Rattle.access_report.specs.{declared.front.Refusal.{Refusal}, Fronts.{refusal_at}}
+use Rattle.deck_reader.specs.{declared.front_reader.FrontReader.{FrontReader}, Reading.{deck_ahead, accounts_read}}
 use Rattle.deck_reader.specs.declared.front_reader.FrontReader.TheVariants as reader
-use Rattle.deck_reader.specs.Reading.{deck_ahead, accounts_read}
-use Rattle.access_report.specs.Fronts.{refusal_at}
-use Rattle.deck_lines.specs.inner.Stops.{IfRefused}
 
 ends_here : (at : FrontReader) (n : ℕ) → deck_ahead at n [] ≡ refused_early n Truncated (accounts_read at)
 ends_here reader.Opening n = refl

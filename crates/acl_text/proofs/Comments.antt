@@ -1,22 +1,13 @@
 -- A comment at the end of a line changes nothing of what a long text says; blanks behind an entry's text change nothing of its fields.
 use Rattle.std.proofs.Common.{◌≡◌, ◌∙◌, ap, sym, subst, refl, ℕ, ◌+◌, Bool, true, false, cond, List, [], ◌∷◌, ◌++◌, map, reverse, not, ◌⊎◌, inl, inr, append_assoc, append-nil}
-use Rattle.std.specs.Prelude.{Result, Ok, Err, All, IsTrue, ◌==◌, ◌&&◌, ◌||◌}
-use Rattle.std.specs.List.{list_all, filter, slice_split, onto_first, AllZip}
-use Rattle.std.proofs.lemmas.Bool.{eqb-true}
-use Rattle.std.proofs.lemmas.List.{reverse-append}
-use Rattle.std.proofs.lemmas.List.Elements.{All-head, All-tail, All-cons, All-append}
-use Rattle.std.proofs.lemmas.List.Sorted.{All-permutation, IsPermutation-reverse}
-use Rattle.std.proofs.lemmas.List.Splits.{slice_split_at, slice_split_none, slice_split-cons_yes}
-use Rattle.mon_acl.specs.declared.entries.Entry.{Entry}
-use Rattle.mon_acl.specs.declared.refusals.AclError.{AclError}
-use Rattle.acl_text.specs.Texts.{is_gap, is_colon, is_hash, trimmed, fields, without_comment, long_pieces}
-use Rattle.acl_text.proofs.Filled.{is_filled}
-use Rattle.acl_text.specs.Refusals.{◌>>=◌, entry_of_fields, joined, lacking, entries_on}
-use Rattle.acl_text.specs.Reading.{arranged, read_long}
-use Rattle.acl_text.specs.Laws.{BeginsLine, CommentsSayNothing}
-use Rattle.mon_text.specs.Characters.{is_line_feed}
-use Rattle.mon_text.specs.Beginnings.{without_leading}
-use Rattle.acl_text.proofs.Lacks.{whole}
+use Rattle.std.specs.{Prelude.{Result, Ok, Err, All, IsTrue, ◌==◌, ◌&&◌, ◌||◌}, List.{list_all, filter, slice_split, onto_first, AllZip}}
+use Rattle.std.proofs.lemmas.{Bool.{eqb-true}, List.{reverse-append}, List.Elements.{All-head, All-tail, All-cons, All-append}}
+use Rattle.std.proofs.lemmas.List.{Sorted.{All-permutation, IsPermutation-reverse}, Splits.{slice_split_at, slice_split_none, slice_split-cons_yes}}
+use Rattle.mon_acl.specs.declared.{entries.Entry.{Entry}, refusals.AclError.{AclError}}
+use Rattle.acl_text.specs.{Texts.{is_gap, is_colon, is_hash, trimmed, fields, without_comment, long_pieces}, Reading.{arranged, read_long}}
+use Rattle.acl_text.specs.{Refusals.{◌>>=◌, entry_of_fields, joined, lacking, entries_on}, Laws.{BeginsLine, CommentsSayNothing}}
+use Rattle.acl_text.proofs.{Filled.{is_filled}, Lacks.{whole}}
+use Rattle.mon_text.specs.{Characters.{is_line_feed}, Beginnings.{without_leading}}
 
 abbrev pub AreGaps : List ℕ → Type 0
 AreGaps blanks = All (λ c. IsTrue (is_gap c)) blanks

@@ -3,9 +3,7 @@ use Rattle.std.proofs.Common.{◌≡◌, Some, true, false, refl}
 use Rattle.std.specs.Prelude.{codes, Ok}
 use Rattle.mon_acl.specs.declared.entries.Tag.TheVariants.{UserObj, User, Other}
 use Rattle.mon_acl.specs.declared.refusals.AclError.TheVariants.{BadTag, BadQualifier, BadPerms, Missing, Twice, NoMask}
-use Rattle.acl_text.specs.Refusals.{◌>>=◌, entry_of, acl_refusal, long_refusal}
-use Rattle.acl_text.specs.Reading.{read_short, read_long}
-use Rattle.acl_text.specs.Printing.{entry_head, long_form}
+use Rattle.acl_text.specs.{Refusals.{◌>>=◌, entry_of, acl_refusal, long_refusal}, Reading.{read_short, read_long}, Printing.{entry_head, long_form}}
 
 any_order : read_short (codes "o::, g::r ,u::wr") ≡ read_short (codes "user::rw-,group::r--,other::---")
 any_order = refl

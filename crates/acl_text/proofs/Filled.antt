@@ -1,6 +1,5 @@
 -- Lines that are not blank.
-use Rattle.std.specs.Prelude.{ℕ, Bool, not, List}
-use Rattle.std.specs.List.{list_all}
+use Rattle.std.specs.{Prelude.{ℕ, Bool, not, List}, List.{list_all}}
 use Rattle.acl_text.specs.Texts.{is_gap}
 
 -- not blanks alone

@@ -1,22 +1,12 @@
 -- The lines of a printed list spell it, in any order and under any mask.
 use Rattle.std.proofs.Common.{◌≡◌, ◌∙◌, ap, sym, subst, refl, ℕ, Bool, true, false, cond, List, [], ◌∷◌, ◌++◌, map, Option, Some, None, append_assoc, append-nil}
-use Rattle.std.specs.Prelude.{All, IsTrue, flat_map, codes}
-use Rattle.std.specs.List.{filter, slice_split, AllZip}
-use Rattle.std.proofs.lemmas.List.Elements.{All-nil, All-cons, All-head, All-tail, All-append, All-from_recursion}
-use Rattle.std.proofs.lemmas.List.Sorted.{IsPermutation-sym}
-use Rattle.std.proofs.lemmas.List.Splits.{slice_split_at}
-use Rattle.mon_acl.specs.declared.entries.Perms.{Perms}
-use Rattle.mon_acl.specs.declared.entries.Tag.{Tag}
+use Rattle.std.{specs.Prelude.{All, IsTrue, flat_map, codes}, specs.List.{filter, slice_split, AllZip}, proofs.lemmas.List.Sorted.{IsPermutation-sym}}
+use Rattle.std.proofs.lemmas.List.{Elements.{All-nil, All-cons, All-head, All-tail, All-append, All-from_recursion}, Splits.{slice_split_at}}
+use Rattle.mon_acl.specs.{declared.entries.Perms.{Perms}, declared.entries.Tag.{Tag}, declared.entries.Entry.{Entry}, Entries.{qualifier, IsEntry, tag_word}}
 use Rattle.mon_acl.specs.declared.entries.Tag.TheVariants.{UserObj, User, GroupObj, Group, Mask, Other}
-use Rattle.mon_acl.specs.declared.entries.Entry.{Entry}
-use Rattle.mon_acl.specs.Entries.{qualifier, IsEntry, tag_word}
-use Rattle.acl_text.specs.Texts.{is_gap, is_hash, without_comment, long_pieces, SpellsFields, SpellsEntry}
-use Rattle.acl_text.proofs.Filled.{is_filled}
-use Rattle.acl_text.specs.Printing.{perms_text, entry_text, effective, effective_text, long_line}
-use Rattle.acl_text.specs.Laws.{AnyLineOrder}
-use Rattle.acl_text.proofs.Valid.{valid_moved}
-use Rattle.acl_text.proofs.Spelling.{Lacks, hashes, line_feeds, perms_lack, entry_lacks, in_fields, printed_entry}
-use Rattle.acl_text.proofs.Comments.{up_to_hash, fields_blanks}
+use Rattle.acl_text.specs.{Texts.{is_gap, is_hash, without_comment, long_pieces, SpellsFields, SpellsEntry}, Laws.{AnyLineOrder}}
+use Rattle.acl_text.{specs.Printing.{perms_text, entry_text, effective, effective_text, long_line}, proofs.Comments.{up_to_hash, fields_blanks}}
+use Rattle.acl_text.proofs.{Filled.{is_filled}, Valid.{valid_moved}, Spelling.{Lacks, hashes, line_feeds, perms_lack, entry_lacks, in_fields, printed_entry}}
 use Rattle.mon_text.specs.Characters.{is_line_feed}
 
 -- what is left of the comment: the tab before it

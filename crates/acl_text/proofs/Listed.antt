@@ -1,26 +1,15 @@
 -- The whole text: what is read is spelled, what is spelled is read, and one order is canonical.
 use Rattle.std.proofs.Common.{◌≡◌, ◌∙◌, ap, sym, subst, refl, ℕ, ◌+◌, ◌≤◌, Bool, true, false, cond, List, [], ◌∷◌, ◌++◌, Option, Some, None, not, arith, ◌⊎◌, inl, inr}
-use Rattle.std.specs.Prelude.{Result, Ok, Err, IsPermutation, count_by, ◌==◌, ◌&&◌}
-use Rattle.std.specs.List.{list_any, AllZip, AllByRecursion}
-use Rattle.std.specs.List.Sorted.{IsStrictlySortedBy}
+use Rattle.std.specs.{Prelude.{Result, Ok, Err, IsPermutation, count_by, ◌==◌, ◌&&◌}, List.{list_any, AllZip, AllByRecursion}, List.Sorted.{IsStrictlySortedBy}}
 use Rattle.std.specs.declared.cmp.Ordering.TheVariants.{Less, Equal}
-use Rattle.std.proofs.lemmas.Cmp.{tied_itself}
-use Rattle.std.proofs.lemmas.Bool.{ne_eqb}
-use Rattle.std.proofs.lemmas.List.Elements.{All-from_recursion, recursion_from_All}
 use Rattle.std.proofs.lemmas.List.Sorted.{All-permutation, IsPermutation-refl, IsPermutation-sym, IsPermutation-trans, IsPermutation-middle}
-use Rattle.mon_acl.specs.declared.entries.Tag.TheVariants.{UserObj, User, GroupObj, Group, Mask, Other}
-use Rattle.mon_acl.specs.declared.entries.Entry.{Entry}
-use Rattle.mon_acl.specs.declared.refusals.AclError.{AclError}
-use Rattle.mon_acl.specs.declared.refusals.AclError.TheVariants.{Twice, TooMany, Missing, NoMask}
-use Rattle.mon_acl.specs.Entries.{has_tag, is_named, is_for, IsValidAcl, IsCanonical, IsAcl, compared}
-use Rattle.acl_text.specs.Texts.{SpellsEntry, SpellList}
-use Rattle.acl_text.specs.Refusals.{◌>>=◌, joined, lacking, entry_of, entries_on}
-use Rattle.acl_text.specs.Reading.{arranged, read_pieces}
-use Rattle.acl_text.proofs.Order.{order, count_moved, arranged_moves}
-use Rattle.acl_text.proofs.Spelled.{bind_ok, read_spells, spelled_read}
-use Rattle.mon_acl.proofs.Keyed.{counted}
+use Rattle.std.proofs.lemmas.{Cmp.{tied_itself}, Bool.{ne_eqb}, List.Elements.{All-from_recursion, recursion_from_All}}
+use Rattle.mon_acl.specs.declared.entries.{Tag.TheVariants.{UserObj, User, GroupObj, Group, Mask, Other}, Entry.{Entry}}
+use Rattle.mon_acl.specs.declared.refusals.AclError.{AclError, TheVariants.{Twice, TooMany, Missing, NoMask}}
+use Rattle.mon_acl.{specs.Entries.{has_tag, is_named, is_for, IsValidAcl, IsCanonical, IsAcl, compared}, proofs.Keyed.{counted}}
+use Rattle.acl_text.specs.{Texts.{SpellsEntry, SpellList}, Refusals.{◌>>=◌, joined, lacking, entry_of, entries_on}, Reading.{arranged, read_pieces}}
+use Rattle.acl_text.proofs.{Order.{order, count_moved, arranged_moves}, Spelled.{bind_ok, read_spells, spelled_read}, Lacks.{whole}}
 use Rattle.acl_text.proofs.Valid.{count_some, IsApart, apart_rest, apart_moved, arranged_sorted, count_less, some_of_count, joined_ok, readable, read_acl, valid_moved}
-use Rattle.acl_text.proofs.Lacks.{whole}
 
 -- ---- what is read is spelled
 

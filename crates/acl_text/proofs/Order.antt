@@ -1,22 +1,12 @@
 -- The canonical order of entries, and the place of one more.
 use Rattle.std.proofs.Common.{◌≡◌, ◌∙◌, ap, sym, subst, refl, ℕ, ◌+◌, ◌-◌, ◌<◌, ◌≤◌, ◌⊎◌, inl, inr, Bool, true, false, cond, List, [], ◌∷◌, ◌++◌, length, take, drop, get_or, arith, length-take, length-drop}
-use Rattle.std.specs.Prelude.{All, HoldsAt, insert, count_by, IsPermutation, ◌||◌}
-use Rattle.std.specs.List.{list_any, AllWithin, AllByRecursion}
-use Rattle.std.specs.List.Sorted.{IsNonDecreasingBy, IsStrictlySortedBy}
-use Rattle.std.specs.Cmp.{IsTotalOrder}
-use Rattle.std.specs.Cmp.Lexicographic.{texts_ties, nat_list_cmp_total}
-use Rattle.std.specs.Ordering.{is_lt, is_eq, ordering_index, ordering_reverse}
-use Rattle.std.specs.declared.cmp.Ordering.{Ordering}
-use Rattle.std.specs.declared.cmp.Ordering.TheVariants.{Less, Equal, Greater}
-use Rattle.std.proofs.lemmas.Bool.{cases_lt}
-use Rattle.std.proofs.lemmas.Cmp.{on_total}
-use Rattle.std.proofs.lemmas.List.{get_or_default, get_or-take, get_or-drop, take-append-drop}
-use Rattle.std.proofs.lemmas.List.Elements.{All-head, All-tail, All-append}
-use Rattle.std.proofs.lemmas.List.Folds.{list_any_at, list_any_none}
+use Rattle.std.specs.{Prelude.{All, HoldsAt, insert, count_by, IsPermutation, ◌||◌}, List.{list_any, AllWithin, AllByRecursion}, Cmp.{IsTotalOrder}}
+use Rattle.std.specs.{List.Sorted.{IsNonDecreasingBy, IsStrictlySortedBy}, Cmp.Lexicographic.{texts_ties, nat_list_cmp_total}, declared.cmp.Ordering.{Ordering}}
+use Rattle.std.specs.{Ordering.{is_lt, is_eq, ordering_index, ordering_reverse}, declared.cmp.Ordering.TheVariants.{Less, Equal, Greater}}
+use Rattle.std.proofs.lemmas.{Bool.{cases_lt}, Cmp.{on_total}, List.{get_or_default, get_or-take, get_or-drop, take-append-drop}, Map.Keys.{Less-from_sorted}}
+use Rattle.std.proofs.lemmas.List.{Elements.{All-head, All-tail, All-append}, Folds.{list_any_at, list_any_none}}
 use Rattle.std.proofs.lemmas.List.Sorted.{searchable_from_sorted, IsPermutation-refl, IsPermutation-trans, IsPermutation-middle, IsPermutation-cons, list_any-IsPermutation, sum_by-IsPermutation}
-use Rattle.std.proofs.lemmas.Map.Keys.{Less-from_sorted}
-use Rattle.mon_acl.specs.declared.entries.Entry.{Entry}
-use Rattle.mon_acl.specs.Entries.{sort_key, compared, is_for, qualifier, IsCanonical}
+use Rattle.mon_acl.specs.{declared.entries.Entry.{Entry}, Entries.{sort_key, compared, is_for, qualifier, IsCanonical}}
 use Rattle.acl_text.specs.Reading.{put_in, arranged}
 
 pub order : IsTotalOrder compared

@@ -1,15 +1,9 @@
 -- Cutting a text at its first separator.
 use Rattle.std.proofs.Common.{◌≡◌, ◌∙◌, ap, sym, subst, ℕ, ◌+◌, ◌-◌, ◌<◌, ◌≤◌, Bool, true, false, cond, List, [], ◌∷◌, length, take, drop, Option, Some, None, arith, length-drop, refl, map, option_copied, Bor}
 use Rattle.mon_acl.specs.declared.entries.Tag.{Tag}
-use Rattle.acl_text.specs.Texts.{is_colon, trimmed, is_hash, without_comment}
-use Rattle.acl_text.specs.inner.Building.{parts_behind}
-use Rattle.acl_text.specs.Refusals.{parts_of}
-use Rattle.std.specs.Prelude.{nat_lt}
-use Rattle.std.specs.List.{slice_split, onto_first, position, position_or_len}
-use Rattle.std.proofs.lemmas.List.Splits.{slice_split_first, slice_split_none}
-use Rattle.std.proofs.lemmas.List.Sums.{fails_before_first}
-use Rattle.std.proofs.lemmas.List.{take_all}
-use Rattle.std.proofs.lemmas.Option.{cond_some}
+use Rattle.acl_text.specs.{Texts.{is_colon, trimmed, is_hash, without_comment}, inner.Building.{parts_behind}, Refusals.{parts_of}}
+use Rattle.std.specs.{Prelude.{nat_lt}, List.{slice_split, onto_first, position, position_or_len}}
+use Rattle.std.proofs.lemmas.{List.Splits.{slice_split_first, slice_split_none}, List.Sums.{fails_before_first}, List.{take_all}, Option.{cond_some}}
 use Rattle.std.proofs.lemmas.Bool.{ltb-true, ltb-false}
 
 pub cut_some : (p : ℕ → Bool) (xs : List ℕ) (i : ℕ) → position p xs ≡ Some i →

@@ -1,21 +1,12 @@
 -- An entry that is spelled as it is printed, where a text begins with it, is the next piece.
 use Rattle.std.proofs.Common.{◌≡◌, ◌∙◌, ap, sym, subst, refl, ℕ, Bool, true, false, cond, List, [], ◌∷◌, ◌++◌, map, Option, Some, None, append-nil, IfSome}
-use Rattle.std.specs.Prelude.{◌||◌, Ok}
-use Rattle.std.specs.List.{filter, list_any, slice_split}
-use Rattle.std.proofs.lemmas.List.Splits.{slice_split_at, slice_split_none}
+use Rattle.std.{specs.Prelude.{◌||◌, Ok}, specs.List.{filter, list_any, slice_split}, proofs.lemmas.List.Splits.{slice_split_at, slice_split_none}}
 use Rattle.mon_text.specs.Characters.{is_comma, is_line_feed}
-use Rattle.mon_acl.specs.declared.entries.Entry.{Entry}
-use Rattle.acl_text.specs.declared.pieces.Form.{Form}
-use Rattle.acl_text.specs.declared.pieces.Form.TheVariants.{Short, Long}
-use Rattle.mon_acl.specs.Entries.{IsEntry}
-use Rattle.acl_text.specs.Texts.{is_hash, without_comment}
-use Rattle.acl_text.specs.Printing.{entry_text}
+use Rattle.mon_acl.specs.{declared.entries.Entry.{Entry}, Entries.{IsEntry}}
+use Rattle.acl_text.specs.{declared.pieces.Form.{Form}, declared.pieces.Form.TheVariants.{Short, Long}, Texts.{is_hash, without_comment}, Printing.{entry_text}}
 use Rattle.acl_text.specs.inner.Building.{pieces_left, separator_of, separated, IsNext}
-use Rattle.acl_text.proofs.Filled.{is_filled}
-use Rattle.acl_text.proofs.Comments.{up_to_hash}
-use Rattle.acl_text.proofs.Lines.{entry_filled}
-use Rattle.acl_text.proofs.Spelled.{spelled_read}
 use Rattle.acl_text.proofs.Spelling.{commas, hashes, line_feeds, entry_lacks, printed_entry}
+use Rattle.acl_text.proofs.{Filled.{is_filled}, Comments.{up_to_hash}, Lines.{entry_filled}, Spelled.{spelled_read}}
 
 -- ---- the next piece
 

@@ -1,8 +1,6 @@
 -- The printed form as the first entry, and a comma before each other.
 use Rattle.std.proofs.Common.{◌≡◌, ◌∙◌, ap, ℕ, ◌≤◌, List, [], ◌∷◌, ◌++◌, map, length, ◌-◌, take, drop, get_or, arith, append-nil}
-use Rattle.std.specs.Prelude.{flat_map}
-use Rattle.std.specs.List.{join_with_byte}
-use Rattle.std.proofs.lemmas.List.{take_all}
+use Rattle.std.{specs.Prelude.{flat_map}, specs.List.{join_with_byte}, proofs.lemmas.List.{take_all}}
 use Rattle.mon_acl.specs.declared.entries.Entry.{Entry}
 use Rattle.acl_text.specs.Printing.{entry_text, next_text, short_form}
 

@@ -1,11 +1,8 @@
 -- The parts of the printed forms, put to a sink one behind the other.
 use Rattle.std.proofs.Common.{◌≡◌, ◌∙◌, ap, subst, ℕ, ◌≤◌, ◌-◌, List, [], ◌∷◌, ◌++◌, length, take, drop, get_or, Option}
 use Rattle.std.specs.Prelude.{flat_map}
-use Rattle.mon_device.specs.Putting.{Standing, Puts}
-use Rattle.mon_device.proofs.Putting.{puts_same, puts_then}
-use Rattle.mon_acl.specs.declared.entries.Perms.{Perms}
-use Rattle.mon_acl.specs.declared.entries.Entry.{Entry}
-use Rattle.mon_acl.specs.Entries.{qualifier, tag_word}
+use Rattle.mon_device.{specs.Putting.{Standing, Puts}, proofs.Putting.{puts_same, puts_then}}
+use Rattle.mon_acl.specs.{declared.entries.Perms.{Perms}, declared.entries.Entry.{Entry}, Entries.{qualifier, tag_word}}
 use Rattle.acl_text.specs.Printing.{letter, perms_text, entry_head, entry_text, next_text, short_form, effective, effective_text, long_line}
 use Rattle.acl_text.proofs.Printed.{whole_form}
 

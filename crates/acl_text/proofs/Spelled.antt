@@ -1,20 +1,13 @@
 -- One entry: what is read from a piece is what the piece spells, and all of it.
 use Rattle.std.proofs.Common.{◌≡◌, ◌∙◌, ap, sym, subst, refl, ℕ, Bool, true, false, cond, List, [], ◌∷◌, Option, Some, None, inl, inr, ◌⊎◌, arith}
-use Rattle.std.proofs.lemmas.Bool.{eqb-true, eqb-false, leb-true}
-use Rattle.std.specs.Prelude.{Result, Ok, Err, ok_or, option_map, codes, IsTrue, ◌==◌, ◌&&◌, ◌||◌, nat_eq, nat_le}
-use Rattle.std.specs.List.{list_all}
-use Rattle.std.specs.Cmp.Lexicographic.{pointwise, bytes_decides}
+use Rattle.std.{proofs.lemmas.Bool.{eqb-true, eqb-false, leb-true}, specs.List.{list_all}, specs.Cmp.Lexicographic.{pointwise, bytes_decides}}
+use Rattle.std.specs.{Prelude.{Result, Ok, Err, ok_or, option_map, codes, IsTrue, ◌==◌, ◌&&◌, ◌||◌, nat_eq, nat_le}, Option.{unwrap_or}}
 use Rattle.mon_text.specs.Names.{is_name}
-use Rattle.mon_acl.specs.declared.entries.Perms.{Perms}
-use Rattle.mon_acl.specs.declared.entries.Tag.{Tag}
-use Rattle.mon_acl.specs.declared.entries.Tag.TheVariants.{UserObj, User, GroupObj, Group, Mask, Other}
-use Rattle.mon_acl.specs.declared.entries.Entry.{Entry}
-use Rattle.mon_acl.specs.declared.refusals.AclError.{AclError}
+use Rattle.mon_acl.specs.declared.{entries.Perms.{Perms}, entries.Tag.{Tag}, entries.Entry.{Entry}, refusals.AclError.{AclError}}
+use Rattle.mon_acl.specs.{declared.entries.Tag.TheVariants.{UserObj, User, GroupObj, Group, Mask, Other}, Entries.{is_qualified, qualifier, IsEntry}}
 use Rattle.mon_acl.specs.declared.refusals.AclError.TheVariants.{BadTag, BadQualifier, BadPerms}
-use Rattle.mon_acl.specs.Entries.{is_qualified, qualifier, IsEntry}
 use Rattle.acl_text.specs.Texts.{fields, is_permission, times, once_if, may_leave_out, SpellsTag, SpellsPerms, SpellsFields, SpellsEntry}
 use Rattle.acl_text.specs.Refusals.{◌>>=◌, is_either, type_of, named_type, qualified, parts_of, is_perms, perms_of, entry_of, entry_of_fields}
-use Rattle.std.specs.Option.{unwrap_or}
 
 -- ---- results in a row
 

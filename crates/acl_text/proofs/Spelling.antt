@@ -1,25 +1,14 @@
 -- What is printed spells the list: the parts of a printed entry and of a printed list.
 use Rattle.std.proofs.Common.{◌≡◌, ◌∙◌, ap, sym, subst, refl, ℕ, Bool, true, false, cond, List, [], ◌∷◌, ◌++◌, map, reverse, Option, Some, None, inl, append_assoc, arith}
-use Rattle.std.specs.Prelude.{All, IsPermutation, IsTrue, ◌==◌, ◌&&◌, ◌||◌}
-use Rattle.std.specs.List.{list_all, slice_split, AllZip}
-use Rattle.std.proofs.lemmas.Bool.{ne_eqb}
-use Rattle.std.proofs.lemmas.List.Elements.{All-nil, All-cons, All-head, All-tail, All-append, All-from_recursion}
-use Rattle.std.proofs.lemmas.List.Sorted.{All-permutation, IsPermutation-reverse, IsPermutation-sym}
-use Rattle.std.proofs.lemmas.List.{reverse-reverse}
-use Rattle.std.proofs.lemmas.List.Splits.{slice_split_at, slice_split_none}
-use Rattle.mon_text.specs.Characters.{is_letter, is_digit, is_comma, is_line_feed}
-use Rattle.mon_text.specs.Names.{is_name, is_name_character}
-use Rattle.mon_acl.specs.declared.entries.Perms.{Perms}
-use Rattle.mon_acl.specs.declared.entries.Tag.{Tag}
+use Rattle.std.specs.{Prelude.{All, IsPermutation, IsTrue, ◌==◌, ◌&&◌, ◌||◌}, List.{list_all, slice_split, AllZip}, Option.{unwrap_or}}
+use Rattle.std.proofs.lemmas.{Bool.{ne_eqb}, List.Elements.{All-nil, All-cons, All-head, All-tail, All-append, All-from_recursion}, List.{reverse-reverse}}
+use Rattle.std.proofs.lemmas.List.{Sorted.{All-permutation, IsPermutation-reverse, IsPermutation-sym}, Splits.{slice_split_at, slice_split_none}}
+use Rattle.mon_text.specs.{Characters.{is_letter, is_digit, is_comma, is_line_feed}, Names.{is_name, is_name_character}, Beginnings.{without_leading}}
+use Rattle.mon_acl.specs.declared.entries.{Perms.{Perms}, Tag.{Tag}, Entry.{Entry}}
 use Rattle.mon_acl.specs.declared.entries.Tag.TheVariants.{UserObj, User, GroupObj, Group, Mask, Other}
-use Rattle.mon_acl.specs.declared.entries.Entry.{Entry}
 use Rattle.mon_acl.specs.Entries.{is_qualified, qualifier, IsEntry, IsValidAcl, IsAcl, tag_word}
 use Rattle.acl_text.specs.Texts.{is_gap, is_colon, is_hash, trimmed, pieces, fields, SpellsPerms, SpellsFields, SpellsEntry, IsShortText}
-use Rattle.acl_text.specs.Printing.{letter, perms_text, entry_head, entry_text, short_form}
-use Rattle.acl_text.proofs.Spelled.{both}
-use Rattle.acl_text.proofs.Valid.{valid_moved}
-use Rattle.std.specs.Option.{unwrap_or}
-use Rattle.mon_text.specs.Beginnings.{without_leading}
+use Rattle.acl_text.{specs.Printing.{letter, perms_text, entry_head, entry_text, short_form}, proofs.Spelled.{both}, proofs.Valid.{valid_moved}}
 
 -- no character of the text passes the test
 abbrev pub Lacks : (ℕ → Bool) → List ℕ → Type 0

@@ -1,22 +1,14 @@
 -- Reading with the entries kept in canonical order: what the loop does, piece by piece.
 use Rattle.std.proofs.Common.{◌≡◌, ◌∙◌, ap, sym, subst, refl, ℕ, ◌+◌, Bool, true, false, cond, ◌≤◌, List, [], ◌∷◌, ◌++◌, length, length-append, take, drop, arith, Option}
-use Rattle.std.specs.Prelude.{Result, Ok, Err, IsOk, count_by, ◌==◌, ◌&&◌}
-use Rattle.std.specs.Ordering.{is_lt}
-use Rattle.std.specs.List.{list_any}
+use Rattle.std.specs.{Prelude.{Result, Ok, Err, IsOk, count_by, ◌==◌, ◌&&◌}, Ordering.{is_lt}, List.{list_any}}
 use Rattle.std.proofs.lemmas.List.{append_assoc, take-append-drop, take-append-le}
-use Rattle.mon_text.specs.declared.stop.Stop.{Stop}
-use Rattle.mon_text.specs.declared.stop.Stop.TheVariants.{Refused, Memory}
-use Rattle.mon_text.specs.Stops.{Gives}
-use Rattle.mon_acl.specs.declared.entries.Entry.{Entry}
-use Rattle.mon_acl.specs.declared.entries.Tag.TheVariants.{UserObj, GroupObj, Mask, Other}
-use Rattle.mon_acl.specs.declared.refusals.AclError.{AclError}
-use Rattle.mon_acl.specs.declared.refusals.AclError.TheVariants.{Twice, TooMany}
+use Rattle.mon_text.specs.{declared.stop.Stop.{Stop}, declared.stop.Stop.TheVariants.{Refused, Memory}, Stops.{Gives}}
+use Rattle.mon_acl.specs.declared.entries.{Entry.{Entry}, Tag.TheVariants.{UserObj, GroupObj, Mask, Other}}
+use Rattle.mon_acl.specs.declared.refusals.AclError.{AclError, TheVariants.{Twice, TooMany}}
 use Rattle.mon_acl.specs.Entries.{compared, is_for, qualifier, is_named, has_tag, IsCanonical}
-use Rattle.acl_text.specs.Refusals.{◌>>=◌, entry_of, joined, entries_on, entries_of, lacking}
-use Rattle.acl_text.specs.Reading.{MayGrow, put_in, arranged, read_pieces}
+use Rattle.acl_text.specs.{Refusals.{◌>>=◌, entry_of, joined, entries_on, entries_of, lacking}, Reading.{MayGrow, put_in, arranged, read_pieces}}
 use Rattle.acl_text.specs.inner.Building.{added, piece_added, canonical_entries_of}
-use Rattle.acl_text.proofs.Order.{any_arranged, count_arranged, put_sorted}
-use Rattle.acl_text.proofs.Lacks.{whole}
+use Rattle.acl_text.proofs.{Order.{any_arranged, count_arranged, put_sorted}, Lacks.{whole}}
 
 abbrev pub sorted_on : ℕ → List Entry → List (List ℕ) → Result (List Entry) AclError
 sorted_on n es [] = Ok es

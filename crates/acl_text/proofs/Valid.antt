@@ -1,25 +1,14 @@
 -- Counting entries: what is read makes a valid list.
 use Rattle.std.proofs.Common.{◌≡◌, ◌∙◌, ap, sym, subst, refl, ℕ, ◌+◌, ◌≤◌, Bool, true, false, cond, List, [], ◌∷◌, Option, Some, None, not, arith}
-use Rattle.std.specs.Prelude.{Ok, Err, All, IsPermutation, IsTrue, count_by, nat_eq, ◌==◌, ◌&&◌, ◌||◌}
-use Rattle.std.specs.List.{list_any}
+use Rattle.std.specs.{Prelude.{Ok, Err, All, IsPermutation, IsTrue, count_by, nat_eq, ◌==◌, ◌&&◌, ◌||◌}, List.{list_any}, Option.{unwrap_or}}
 use Rattle.std.specs.Cmp.Lexicographic.{pointwise, bytes_decides}
-use Rattle.std.proofs.lemmas.Bool.{eqb-false}
-use Rattle.std.proofs.lemmas.Cmp.{nat_list_eq_equiv}
-use Rattle.std.proofs.lemmas.List.Elements.{All-nil, All-cons, All-head, All-tail}
-use Rattle.std.proofs.lemmas.List.Sorted.{All-permutation}
-use Rattle.mon_acl.specs.declared.entries.Tag.{Tag}
-use Rattle.mon_acl.specs.declared.entries.Tag.TheVariants.{UserObj, User, GroupObj, Group, Mask, Other}
-use Rattle.mon_acl.specs.declared.entries.Entry.{Entry}
-use Rattle.mon_acl.specs.declared.refusals.AclError.{AclError}
+use Rattle.std.proofs.lemmas.{Bool.{eqb-false}, Cmp.{nat_list_eq_equiv}, List.Elements.{All-nil, All-cons, All-head, All-tail}, List.Sorted.{All-permutation}}
+use Rattle.mon_acl.specs.declared.entries.Tag.{Tag, TheVariants.{UserObj, User, GroupObj, Group, Mask, Other}}
+use Rattle.mon_acl.{specs.declared.entries.Entry.{Entry}, specs.declared.refusals.AclError.{AclError}, proofs.Keyed.{counted}}
 use Rattle.mon_acl.specs.declared.refusals.AclError.TheVariants.{Twice, TooMany, Missing, NoMask}
 use Rattle.mon_acl.specs.Entries.{rank, sort_key, is_tag, has_tag, is_named, is_for, qualifier, is_qualified, IsEntry, IsValidAcl, IsCanonical, IsAcl}
-use Rattle.acl_text.specs.Refusals.{◌>>=◌, joined, lacking, entry_of, entries_on, entries_of}
-use Rattle.acl_text.specs.Reading.{arranged, read_pieces}
-use Rattle.mon_acl.proofs.Keyed.{counted}
-use Rattle.acl_text.proofs.Order.{put_sorted, none_sorted, any_arranged, count_moved, arranged_moves}
-use Rattle.acl_text.proofs.Spelled.{bind_ok, read_spells}
-use Rattle.std.specs.Option.{unwrap_or}
-use Rattle.acl_text.proofs.Lacks.{whole}
+use Rattle.acl_text.specs.{Refusals.{◌>>=◌, joined, lacking, entry_of, entries_on, entries_of}, Reading.{arranged, read_pieces}}
+use Rattle.acl_text.proofs.{Order.{put_sorted, none_sorted, any_arranged, count_moved, arranged_moves}, Spelled.{bind_ok, read_spells}, Lacks.{whole}}
 
 -- ---- tests and counts
 

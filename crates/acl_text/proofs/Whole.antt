@@ -1,23 +1,14 @@
 -- The laws, and what they say of a call that reads. What holds of the texts of entries holds of both forms.
 use Rattle.std.proofs.Common.{◌≡◌, ◌∙◌, ap, sym, subst, refl, ℕ, List, Option, Some, None}
-use Rattle.std.specs.Prelude.{◌↔◌, Result, Ok, Err, IfOk, IsErrOf}
-use Rattle.std.proofs.lemmas.List.Sorted.{IsPermutation-refl, IsPermutation-sym, IsPermutation-trans}
-use Rattle.mon_text.specs.declared.stop.Stop.{Stop}
-use Rattle.mon_text.specs.declared.stop.Stop.TheVariants.{Refused}
-use Rattle.mon_text.specs.Stops.{Gives}
-use Rattle.mon_acl.specs.declared.entries.Entry.{Entry}
-use Rattle.mon_acl.specs.declared.refusals.AclError.{AclError}
-use Rattle.acl_text.specs.Texts.{pieces, long_pieces, SpellList}
-use Rattle.acl_text.specs.Refusals.{◌>>=◌, entries_of, lacking, refusal_in, first_refusal}
-use Rattle.acl_text.specs.Reading.{arranged, read_pieces, read_short, read_long}
-use Rattle.mon_acl.specs.Entries.{mask_of}
-use Rattle.acl_text.specs.Printing.{short_form, long_form}
+use Rattle.std.{specs.Prelude.{◌↔◌, Result, Ok, Err, IfOk, IsErrOf}, proofs.lemmas.List.Sorted.{IsPermutation-refl, IsPermutation-sym, IsPermutation-trans}}
+use Rattle.mon_text.specs.{declared.stop.Stop.{Stop}, declared.stop.Stop.TheVariants.{Refused}, Stops.{Gives}}
+use Rattle.mon_acl.specs.{declared.entries.Entry.{Entry}, declared.refusals.AclError.{AclError}, Entries.{mask_of}}
+use Rattle.acl_text.specs.{Texts.{pieces, long_pieces, SpellList}, Refusals.{◌>>=◌, entries_of, lacking, refusal_in, first_refusal}}
+use Rattle.acl_text.specs.{Reading.{arranged, read_pieces, read_short, read_long}, Printing.{short_form, long_form}}
+use Rattle.acl_text.proofs.{Spelling.{reordered}, Lines.{reordered_lines}, Lacks.{whole}}
 use Rattle.acl_text.specs.Laws.{ReadingSpells, OneList, RefusedOrSpells, ReadsBack, OneForm, OneOrder, AnyOrder, LongReadingSpells, OneLongList, LongRefusedOrSpells, LongReadsBack, OneLongForm, AnyLineOrder, CommentsSayNothing}
 use Rattle.acl_text.proofs.Listed as listed
-use Rattle.acl_text.proofs.Spelling.{reordered}
-use Rattle.acl_text.proofs.Lines.{reordered_lines}
 use Rattle.acl_text.proofs.Comments as comments
-use Rattle.acl_text.proofs.Lacks.{whole}
 
 -- ---- the texts of entries, in either form
 

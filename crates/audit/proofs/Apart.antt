@@ -1,32 +1,18 @@
 -- Words with blanks between them are told apart.
 use Rattle.std.proofs.Common.{◌≡◌, ℕ, ◌<◌, ◌^◌, Bool, true, false, ◌&&◌, ◌||◌, List, [], ◌∷◌, ◌++◌, get_or, refl, sym, ap, ◌∙◌, true≢false, append_assoc}
-use Rattle.std.specs.Prelude.{decimal, codes, ◌==◌, if◌then◌else◌, drop, IfSome}
-use Rattle.std.specs.Option.{option_map_or}
-use Rattle.std.specs.List.{list_all}
-use Rattle.std.proofs.lemmas.Bool.Decides.{Decides-eqb}
-use Rattle.std.proofs.lemmas.Fmt.{decimal_injective}
-use Rattle.std.proofs.lemmas.List.{append_cancel_right}
-use Rattle.mon_text.specs.Characters.{is_letter, is_digit}
-use Rattle.mon_text.specs.Names.{is_name_character, IsName}
+use Rattle.std.specs.{Prelude.{decimal, codes, ◌==◌, if◌then◌else◌, drop, IfSome}, Option.{option_map_or}, List.{list_all}}
+use Rattle.std.proofs.lemmas.{Bool.Decides.{Decides-eqb}, Fmt.{decimal_injective}, List.{append_cancel_right}}
+use Rattle.mon_text.{specs.Characters.{is_letter, is_digit}, specs.Names.{is_name_character, IsName}, proofs.Counted.{digits_of_decimal}}
 use Rattle.mon_catalogue.proofs.Blanks.{both}
-use Rattle.mon_text.proofs.Counted.{digits_of_decimal}
-use Rattle.mon_acl.specs.declared.entries.Tag.{Tag}
-use Rattle.mon_acl.specs.declared.entries.Tag.TheVariants.{UserObj, User, GroupObj, Group, Mask, Other}
-use Rattle.interaction.specs.declared.answer.Reason.{Reason}
-use Rattle.interaction.specs.declared.answer.Reason.TheVariants.{By, NoSet, NotOwner, NoUnit, InStream, SpoolUnit, Mode as WrongMode}
-use Rattle.interaction.specs.declared.answer.Answer.{Answer}
-use Rattle.interaction.specs.declared.answer.Answer.TheVariants.{Done, Got, EndOfFile, Denied, Full}
-use Rattle.mon_unit.specs.declared.tie.Target.{Target}
-use Rattle.mon_unit.specs.declared.tie.Target.TheVariants.{Untied, Data, Spool, Set}
-use Rattle.mon_unit.specs.declared.note.NoteAct.{NoteAct}
+use Rattle.mon_acl.specs.declared.entries.Tag.{Tag, TheVariants.{UserObj, User, GroupObj, Group, Mask, Other}}
+use Rattle.interaction.specs.declared.answer.Reason.{Reason, TheVariants.{By, NoSet, NotOwner, NoUnit, InStream, SpoolUnit, Mode as WrongMode}}
+use Rattle.interaction.specs.declared.answer.Answer.{Answer, TheVariants.{Done, Got, EndOfFile, Denied, Full}}
+use Rattle.mon_unit.specs.declared.{tie.Target.{Target}, tie.Target.TheVariants.{Untied, Data, Spool, Set}, note.NoteAct.{NoteAct}}
 use Rattle.mon_unit.specs.declared.note.NoteAct.TheVariants.{Read, Write, Endfile, Rewind}
 use Rattle.std.proofs.Common.{Option, Some, None}
-use Rattle.audit.specs.declared.request.AuditedRequest.{AuditedRequest}
-use Rattle.audit.specs.Words.{target_word, outcome_word}
-use Rattle.audit.specs.Requests.{act_word, by_words, request_line}
-use Rattle.mon_command.specs.Printouts.{word}
-use Rattle.mon_command.specs.Replies.{reason_text}
+use Rattle.audit.specs.{declared.request.AuditedRequest.{AuditedRequest}, Words.{target_word, outcome_word}, Requests.{act_word, by_words, request_line}}
 use Rattle.audit.specs.Laws.{IsNamed, IsEntryNamed, IsReasonNamed, IsSound, without_text, grantor, SaysTheSame, TellsApart}
+use Rattle.mon_command.specs.{Printouts.{word}, Replies.{reason_text}}
 
 -- WORDS
 

@@ -1,26 +1,14 @@
 -- The lines of the data sets that are shown: one more set.
 use Rattle.std.proofs.Common.{◌≡◌, ℕ, ◌+◌, ◌<◌, List, [], ◌∷◌, ◌++◌, length, take, Option, Some, None, refl, sym, ap, ◌∙◌, append-nil, true≢false, cond, codes}
-use Rattle.std.specs.Prelude.{◌↔◌, IsSome, option_map}
-use Rattle.std.specs.List.{flat_map}
-use Rattle.std.specs.Option.{option_map_or}
-use Rattle.std.proofs.lemmas.List.Concat.{flat_map-append}
+use Rattle.std.{specs.Prelude.{◌↔◌, IsSome, option_map}, specs.List.{flat_map}, specs.Option.{option_map_or}, proofs.lemmas.List.Concat.{flat_map-append}}
 use Rattle.mon_acl.specs.Permissions.{to_execute}
-use Rattle.mon_access.specs.declared.account.Account.{Account}
-use Rattle.mon_access.specs.declared.access.Decision.{Decision}
-use Rattle.mon_access.specs.declared.access.Decision.TheVariants.{Granted, Denied}
-use Rattle.mon_catalogue.specs.declared.data_set.DataSet.{DataSet}
-use Rattle.mon_catalogue.specs.Sets.{Sets}
+use Rattle.mon_access.specs.declared.{account.Account.{Account}, access.Decision.{Decision}, access.Decision.TheVariants.{Granted, Denied}}
+use Rattle.mon_catalogue.specs.{declared.data_set.DataSet.{DataSet}, Sets.{Sets}}
 use Rattle.interaction.specs.declared.answer.Reason.{Reason}
-use Rattle.mon_guard.specs.Deciding.{decision_on, is_granted}
-use Rattle.mon_guard.specs.Views.{names_shown}
-use Rattle.mon_command.specs.Printouts.{word}
-use Rattle.mon_command.proofs.Names.{sets_more}
-use Rattle.audit.specs.declared.grants.Grant.TheVariants.{ByEntry}
-use Rattle.audit.specs.Words.{command_line}
-use Rattle.audit.specs.Grants.{granting_entry, granted_words}
-use Rattle.audit.specs.Catalogs.{shown_line}
-use Rattle.audit.specs.inner.Parts.{entry_line, set_at_index}
-use Rattle.audit.specs.Laws.{EntriesAreNamed}
+use Rattle.mon_guard.specs.{Deciding.{decision_on, is_granted}, Views.{names_shown}}
+use Rattle.mon_command.{specs.Printouts.{word}, proofs.Names.{sets_more}}
+use Rattle.audit.specs.{declared.grants.Grant.TheVariants.{ByEntry}, Words.{command_line}, Grants.{granting_entry, granted_words}, Catalogs.{shown_line}}
+use Rattle.audit.specs.{inner.Parts.{entry_line, set_at_index}, Laws.{EntriesAreNamed}}
 
 module _ (law : EntriesAreNamed) (by : List ℕ) (account : Account) (name : List ℕ) (set : DataSet) where
   -- what is put of a set by the entry that grants x, if one does

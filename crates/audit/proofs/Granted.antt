@@ -1,10 +1,8 @@
 -- What stands last of a command, by whether it is done or shows something.
 use Rattle.std.proofs.Common.{◌≡◌, [], Option, refl, if◌then◌else◌}
-use Rattle.mon_command.specs.declared.reply.Reply.TheVariants.{Done, NoAccount, Denied, NameTaken, CatalogueFull, BadList}
-use Rattle.mon_command.specs.declared.said.Said.{Said}
+use Rattle.mon_command.specs.declared.{reply.Reply.TheVariants.{Done, NoAccount, Denied, NameTaken, CatalogueFull, BadList}, said.Said.{Said}}
 use Rattle.mon_command.specs.declared.said.Said.TheVariants.{Told, Records, Entries, Names}
-use Rattle.audit.specs.declared.grants.Grant.{Grant}
-use Rattle.audit.specs.Grants.{granted_words, is_granted, last_words}
+use Rattle.audit.specs.{declared.grants.Grant.{Grant}, Grants.{granted_words, is_granted, last_words}}
 
 pub granted_last : (said : Said) (grant : Option Grant) → (if is_granted said then granted_words grant else []) ≡ last_words said grant
 granted_last (Told Done) grant = refl

@@ -1,44 +1,24 @@
 -- Words that are kept of a line are those of the next one of the same act on the same unit.
 use Rattle.std.proofs.Common.{◌≡◌, ◌≢◌, ℕ, Bool, true, false, List, ◌++◌, length, Option, None, Some, option_map, slice_get, refl, sym, ap, subst, ◌∙◌, append_assoc}
-use Rattle.std.specs.declared.alloc.Global.{Global}
-use Rattle.std.specs.Prelude.{Box, codes, decimal, nat_eq, Result, Ok, Err, IfSome, IfOk, OnErr}
-use Rattle.std.specs.Option.{option_and_then, option_map_or, unwrap_or}
-use Rattle.std.specs.Cmp.Lexicographic.{pointwise, bytes_decides}
+use Rattle.std.specs.{declared.alloc.Global.{Global}, Prelude.{Box, codes, decimal, nat_eq, Result, Ok, Err, IfSome, IfOk, OnErr}}
+use Rattle.std.specs.{Option.{option_and_then, option_map_or, unwrap_or}, Cmp.Lexicographic.{pointwise, bytes_decides}}
 use Rattle.std.proofs.lemmas.Option.{slice_get-map, IfSome_then}
 use Rattle.mon_access.specs.declared.account.Account.{Account}
-use Rattle.mon_catalogue.specs.declared.mode.Mode.{Mode}
-use Rattle.mon_catalogue.specs.declared.mode.Mode.TheVariants.{Seq, Append}
-use Rattle.mon_catalogue.specs.declared.data_set.DataSet.{DataSet}
-use Rattle.mon_catalogue.specs.Sets.{Sets, find_set}
-use Rattle.mon_catalogue.specs.Writing.{Change, recorded}
-use Rattle.mon_catalogue.specs.Changes.{with_changed}
+use Rattle.mon_catalogue.specs.declared.{mode.Mode.{Mode}, mode.Mode.TheVariants.{Seq, Append}, data_set.DataSet.{DataSet}}
+use Rattle.mon_catalogue.specs.{Sets.{Sets, find_set}, Writing.{Change, recorded}, Changes.{with_changed}}
 use Rattle.mon_catalogue.proofs.Changed.{other_sets_stay, named_set_changes}
-use Rattle.interaction.specs.declared.request.Act.{Act}
-use Rattle.interaction.specs.declared.request.Act.TheVariants as asks
-use Rattle.interaction.specs.declared.request.Request.{Request}
-use Rattle.interaction.specs.declared.answer.Answer.{Answer}
+use Rattle.interaction.specs.declared.{request.Act.{Act}, request.Request.{Request}, answer.Answer.{Answer}}
 use Rattle.interaction.specs.declared.answer.Answer.TheVariants.{Done, Got, EndOfFile, Denied, Full}
+use Rattle.interaction.specs.declared.request.Act.TheVariants as asks
 use Rattle.mon_guard.specs.Acting.{left}
-use Rattle.mon_unit.specs.declared.note.NoteAct.{NoteAct}
-use Rattle.mon_unit.specs.declared.note.NoteAct.TheVariants.{Read, Write, Endfile, Rewind}
-use Rattle.mon_unit.specs.declared.tie.Tie.{Tie}
-use Rattle.mon_unit.specs.declared.tie.Target.{Target}
-use Rattle.mon_unit.specs.declared.tie.Target.TheVariants.{Untied, Data, Spool, Set}
-use Rattle.mon_unit.specs.declared.service.UnitService.{UnitService}
-use Rattle.mon_unit.specs.Tying.{tie_at, tied_to}
-use Rattle.mon_unit.specs.Serving.{Reach, set_at, set_of, serve}
-use Rattle.mon_unit.proofs.Changed.{effect, changed_at}
-use Rattle.mon_unit.specs.Lent.{UnitAnswers, reach_of}
-use Rattle.mon_unit.proofs.Looks.{targets_stay}
-use Rattle.mon_command.specs.Printouts.{word, number}
-use Rattle.mon_command.specs.Replies.{reason_text}
-use Rattle.audit.specs.declared.request.AuditedRequest.{AuditedRequest}
-use Rattle.audit.specs.declared.cached_line.CachedLine.{CachedLine}
-use Rattle.audit.specs.declared.audit_cache.AuditCache.{AuditCache}
-use Rattle.audit.specs.Words.{job_line, target_word}
-use Rattle.audit.specs.Requests.{act_word, place_words, place_in, request_line, grant, asked_of}
-use Rattle.audit.specs.inner.Parts.{grant_words}
-use Rattle.audit.specs.inner.KeptWords.{text_of, head_words, target_words, outcome_words, again_line}
+use Rattle.mon_unit.specs.declared.{note.NoteAct.{NoteAct}, note.NoteAct.TheVariants.{Read, Write, Endfile, Rewind}, tie.Tie.{Tie}}
+use Rattle.mon_unit.specs.declared.{tie.Target.{Target}, tie.Target.TheVariants.{Untied, Data, Spool, Set}, service.UnitService.{UnitService}}
+use Rattle.mon_unit.specs.{Tying.{tie_at, tied_to}, Serving.{Reach, set_at, set_of, serve}, Lent.{UnitAnswers, reach_of}}
+use Rattle.mon_unit.proofs.{Changed.{effect, changed_at}, Looks.{targets_stay}}
+use Rattle.mon_command.specs.{Printouts.{word, number}, Replies.{reason_text}}
+use Rattle.audit.specs.{declared.request.AuditedRequest.{AuditedRequest}, declared.cached_line.CachedLine.{CachedLine}, Words.{job_line, target_word}}
+use Rattle.audit.specs.{declared.audit_cache.AuditCache.{AuditCache}, Requests.{act_word, place_words, place_in, request_line, grant, asked_of}}
+use Rattle.audit.specs.inner.{Parts.{grant_words}, KeptWords.{text_of, head_words, target_words, outcome_words, again_line}}
 use Rattle.audit.specs.inner.Keeping.{KeptFits, held, LineFits, Keeps, IsLineOf, named, looked, is_append, appends}
 
 -- THE LINE

@@ -1,29 +1,15 @@
 -- The entry that grants is in the list.
 use Rattle.std.proofs.Common.{◌≡◌, ℕ, List, Option, None, Some, refl, sym, ap, ◌∙◌, subst, true≢false, inl, inr}
-use Rattle.std.specs.Prelude.{◌↔◌, IsSome, slice_get, option_map}
-use Rattle.std.specs.Option.{option_and_then}
-use Rattle.mon_acl.specs.declared.entries.Perms.{Perms}
-use Rattle.mon_acl.specs.declared.entries.Entry.{Entry}
-use Rattle.mon_access.specs.declared.account.Account.{Account}
-use Rattle.mon_catalogue.specs.declared.data_set.DataSet.{DataSet}
-use Rattle.interaction.specs.declared.answer.Reason.{Reason}
-use Rattle.interaction.specs.declared.answer.Reason.TheVariants.{By}
-use Rattle.mon_catalogue.specs.Sets.{find_set}
-use Rattle.mon_acl.specs.Permissions.{to_read, to_write}
-use Rattle.interaction.specs.declared.request.Act.{Act}
+use Rattle.std.specs.{Prelude.{◌↔◌, IsSome, slice_get, option_map}, Option.{option_and_then}}
+use Rattle.mon_acl.specs.{declared.entries.Perms.{Perms}, declared.entries.Entry.{Entry}, Permissions.{to_read, to_write}}
+use Rattle.mon_access.specs.{declared.account.Account.{Account}, Granting.{granting}, GrantingLaws.{NamedWhereGranted, NamesAnEntry}}
+use Rattle.mon_catalogue.specs.{declared.data_set.DataSet.{DataSet}, Sets.{find_set}, Writing.{Change}}
+use Rattle.interaction.specs.declared.{answer.Reason.{Reason}, answer.Reason.TheVariants.{By}, request.Act.{Act}, request.Request.{Request}}
 use Rattle.interaction.specs.declared.request.Act.TheVariants as act
-use Rattle.interaction.specs.declared.request.Request.{Request}
 use Rattle.mon_guard.specs.Laws.{IsGranted, IsThere}
-use Rattle.mon_unit.specs.declared.tie.Target.{Target}
-use Rattle.mon_unit.specs.declared.tie.Target.TheVariants.{Set}
-use Rattle.mon_unit.specs.Serving.{Reach, note_act, set_at}
+use Rattle.mon_unit.specs.{declared.tie.Target.{Target}, declared.tie.Target.TheVariants.{Set}, Serving.{Reach, note_act, set_at}}
 use Rattle.mon_unit.specs.Laws.{target_of, position_of, IsRead, AsksChange, GotWhereGranted, ChangedWhereGranted}
-use Rattle.mon_catalogue.specs.Writing.{Change}
-use Rattle.mon_access.specs.Granting.{granting}
-use Rattle.mon_access.specs.GrantingLaws.{NamedWhereGranted, NamesAnEntry}
-use Rattle.audit.specs.Grants.{granting_entry}
-use Rattle.audit.specs.Requests.{permission, grant, asked_of}
-use Rattle.audit.specs.Laws.{EntriesAreNamed, GrantsAreNamed, ReadsAreNamed, ChangesAreNamed}
+use Rattle.audit.specs.{Grants.{granting_entry}, Requests.{permission, grant, asked_of}, Laws.{EntriesAreNamed, GrantsAreNamed, ReadsAreNamed, ChangesAreNamed}}
 
 -- what is made of an entry that is there
 abbrev made : List Entry → Option ℕ → Option Reason

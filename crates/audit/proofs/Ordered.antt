@@ -1,36 +1,19 @@
 -- What is said of a command is said of its answer: the list that it has set stands in the data sets as it leaves them.
 use Rattle.std.proofs.Common.{◌≡◌, ℕ, Bool, true, false, List, [], ◌++◌, Option, None, Some, Result, Ok, Err, refl, ap, ◌∙◌, if◌then◌else◌}
-use Rattle.std.specs.Prelude.{option_map}
-use Rattle.std.specs.Option.{option_map_or, option_and_then}
-use Rattle.mon_acl.specs.declared.entries.Entry.{Entry}
-use Rattle.mon_acl.specs.declared.refusals.AclError.{AclError}
-use Rattle.acl_text.specs.declared.text.AclText.{AclText}
-use Rattle.acl_text.specs.Forms.{list_of_text}
-use Rattle.acl_text.specs.Printing.{short_form}
-use Rattle.mon_access.specs.declared.account.Account.{Account}
-use Rattle.mon_access.specs.Matches.{is_owner}
-use Rattle.mon_access.specs.Accounts.{find_account}
-use Rattle.mon_catalogue.specs.declared.data_set.DataSet.{DataSet}
-use Rattle.mon_catalogue.specs.Sets.{Sets, find_set}
-use Rattle.mon_catalogue.proofs.Changed.{named_set_changes}
-use Rattle.interaction.specs.declared.answer.Reason.{Reason}
-use Rattle.interaction.specs.declared.answer.Reason.TheVariants.{NoSet, NotOwner}
-use Rattle.mon_guard.specs.declared.answer.AclAnswer.{AclAnswer}
-use Rattle.mon_guard.specs.Owning.{owner_denial}
-use Rattle.mon_guard.specs.inner.Parts.{given, acl_set_unless}
+use Rattle.std.specs.{Prelude.{option_map}, Option.{option_map_or, option_and_then}}
+use Rattle.mon_acl.specs.declared.{entries.Entry.{Entry}, refusals.AclError.{AclError}}
+use Rattle.acl_text.specs.{declared.text.AclText.{AclText}, Forms.{list_of_text}, Printing.{short_form}}
+use Rattle.mon_access.specs.{declared.account.Account.{Account}, Matches.{is_owner}, Accounts.{find_account}}
+use Rattle.mon_catalogue.{specs.declared.data_set.DataSet.{DataSet}, specs.Sets.{Sets, find_set}, proofs.Changed.{named_set_changes}}
+use Rattle.interaction.specs.declared.answer.Reason.{Reason, TheVariants.{NoSet, NotOwner}}
+use Rattle.mon_guard.specs.{declared.answer.AclAnswer.{AclAnswer}, Owning.{owner_denial}, inner.Parts.{given, acl_set_unless}}
 use Rattle.mon_guard.proofs.Shorthand.{owner_denial_of, removed_unless}
-use Rattle.deck_lines.specs.declared.command.Command.{Command}
+use Rattle.deck_lines.specs.{declared.command.Command.{Command}, Commands.{account_of}}
 use Rattle.deck_lines.specs.declared.command.Command.TheVariants.{Create, Delete, SetAcl, ShowAcl, List as Listing, Catalog}
-use Rattle.mon_command.specs.declared.reply.Reply.TheVariants.{Done, NoAccount}
+use Rattle.mon_command.specs.{declared.reply.Reply.TheVariants.{Done, NoAccount}, Commanded.{Served, Told, told_by, removal_reply, acl_reply, served, answered}}
+use Rattle.mon_command.specs.{Saying.{said_of}, Printouts.{word}}
 use Rattle.mon_command.specs.declared.said.Said.TheVariants as said
-use Rattle.mon_command.specs.Commanded.{Served, Told, told_by, removal_reply, acl_reply, served, answered}
-use Rattle.mon_command.specs.Saying.{said_of}
-use Rattle.deck_lines.specs.Commands.{account_of}
-use Rattle.mon_command.specs.Printouts.{word}
-use Rattle.audit.specs.declared.grants.Grant.{Grant}
-use Rattle.audit.specs.declared.grants.Grant.TheVariants.{AsOwner}
-use Rattle.audit.specs.Grants.{by_owner}
-use Rattle.audit.specs.Commands.{said_line, ordered_lines}
+use Rattle.audit.specs.{declared.grants.Grant.{Grant}, declared.grants.Grant.TheVariants.{AsOwner}, Grants.{by_owner}, Commands.{said_line, ordered_lines}}
 use Rattle.audit.specs.inner.Parts.{lines_after}
 
 abbrev list_words : Result (List Entry) AclError → List ℕ

@@ -1,43 +1,26 @@
 -- Lines of commands: their words, and what is read of them.
 use Rattle.std.proofs.Common.{◌≡◌, ℕ, Bool, true, false, ◌&&◌, ◌⊎◌, List, [], ◌∷◌, ◌++◌, refl, sym, ap, ◌∙◌, append_assoc, inl, inr, Option, Some, None, Result, Ok, Err}
-use Rattle.std.specs.Prelude.{codes, decimal, if◌then◌else◌, IfSome, option_map, All}
-use Rattle.std.specs.Option.{unwrap_or}
-use Rattle.std.proofs.lemmas.List.Elements.{All-head, All-tail}
-use Rattle.std.proofs.lemmas.List.Folds.{list_all-append}
+use Rattle.std.specs.{Prelude.{codes, decimal, if◌then◌else◌, IfSome, option_map, All}, Option.{unwrap_or}}
+use Rattle.std.proofs.lemmas.List.{Elements.{All-head, All-tail}, Folds.{list_all-append}}
 use Rattle.mon_text.specs.Names.{IsName}
-use Rattle.mon_acl.specs.declared.entries.Perms.{Perms}
-use Rattle.mon_acl.specs.declared.entries.Tag.{Tag}
-use Rattle.mon_acl.specs.declared.entries.Tag.TheVariants.{UserObj, User, GroupObj, Group, Mask, Other}
-use Rattle.mon_acl.specs.declared.entries.Entry.{Entry}
-use Rattle.mon_acl.specs.declared.refusals.AclError.{AclError}
+use Rattle.mon_acl.specs.declared.{entries.Perms.{Perms}, entries.Tag.{Tag}, entries.Entry.{Entry}, refusals.AclError.{AclError}}
+use Rattle.mon_acl.specs.{declared.entries.Tag.TheVariants.{UserObj, User, GroupObj, Group, Mask, Other}, Entries.{tag_word, is_qualified, IsEntry, IsAcl}}
 use Rattle.mon_acl.specs.declared.refusals.AclError.TheVariants.{BadTag, BadQualifier, BadPerms, Missing, Twice, NoMask, TooMany}
-use Rattle.mon_acl.specs.Entries.{tag_word, is_qualified, IsEntry, IsAcl}
-use Rattle.acl_text.specs.Printing.{entry_head, entry_text, perms_text, letter, short_form}
-use Rattle.acl_text.specs.Laws.{ReadsBack}
-use Rattle.mon_catalogue.specs.declared.mode.Mode.{Mode}
-use Rattle.mon_catalogue.specs.declared.mode.Mode.TheVariants.{Seq, Append}
-use Rattle.mon_catalogue.specs.Modes.{mode_word}
-use Rattle.interaction.specs.declared.answer.Reason.{Reason}
-use Rattle.interaction.specs.declared.answer.Reason.TheVariants.{By}
-use Rattle.mon_command.specs.Printouts.{word, number, list_refusal}
-use Rattle.mon_command.specs.declared.reply.Reply.{Reply}
-use Rattle.mon_command.specs.declared.said.Said.{Said}
-use Rattle.audit.specs.declared.grants.Grant.{Grant}
-use Rattle.audit.specs.declared.grants.Grant.TheVariants.{AsOwner}
-use Rattle.deck_lines.specs.declared.command.Command.{Command}
-use Rattle.mon_command.specs.Replies.{reason_text, reply_text}
-use Rattle.audit.specs.Commands.{said_words, card_words, done_words, if_done, said_line}
-use Rattle.audit.specs.Grants.{last_words, is_granted, granted_words}
-use Rattle.deck_lines.specs.Commands.{account_of}
-use Rattle.audit.specs.Words.{command_line}
-use Rattle.audit_laws.specs.Sound.{IsEntryNamed, IsReplyNamed, IsSaidNamed, AreNamed}
-use Rattle.mon_command.specs.declared.reply.Reply.TheVariants.{Done, NoAccount, Denied, NameTaken, CatalogueFull, BadList}
+use Rattle.acl_text.specs.{Printing.{entry_head, entry_text, perms_text, letter, short_form}, Laws.{ReadsBack}}
+use Rattle.mon_catalogue.specs.{declared.mode.Mode.{Mode}, declared.mode.Mode.TheVariants.{Seq, Append}, Modes.{mode_word}}
+use Rattle.interaction.specs.declared.answer.Reason.{Reason, TheVariants.{By}}
+use Rattle.mon_command.specs.{Printouts.{word, number, list_refusal}, declared.reply.Reply.{Reply}, declared.said.Said.{Said}}
+use Rattle.mon_command.specs.{Replies.{reason_text, reply_text}, declared.reply.Reply.TheVariants.{Done, NoAccount, Denied, NameTaken, CatalogueFull, BadList}}
 use Rattle.mon_command.specs.declared.said.Said.TheVariants.{Told as ToldReply, Records, Entries, Names}
+use Rattle.audit.specs.{declared.grants.Grant.{Grant}, declared.grants.Grant.TheVariants.{AsOwner}, Grants.{last_words, is_granted, granted_words}}
+use Rattle.audit.specs.{Commands.{said_words, card_words, done_words, if_done, said_line}, Words.{command_line}}
+use Rattle.deck_lines.specs.{declared.command.Command.{Command}, Commands.{account_of}}
 use Rattle.deck_lines.specs.declared.command.Command.TheVariants.{Create, Delete, SetAcl, ShowAcl, List as Listing, Catalog}
-use Rattle.audit_laws.specs.Telling.{Told, Order, Creates, Deletes, SetsList, ShowsList, Lists, ShowsNames, Shows, told_error, told_said, told_grant, if_told, last_told, told_command}
+use Rattle.audit_laws.specs.Sound.{IsEntryNamed, IsReplyNamed, IsSaidNamed, AreNamed}
 use Rattle.audit_laws.specs.Reading.{said_in, grant_in, mode_in, list_in, behind, ordering, list_set, told_in}
 use Rattle.audit_laws.proofs.Words.{is_dark, is_word, IsWord, Reads, no_words, one_word, joined, ended, same_words, name_word, number_word, IsLineOf, line_of}
 use Rattle.audit_laws.proofs.Reasons.{entry_word, entry_is, reason_list, reason_reads, reason_back, IsGrantNamed, grant_list, grant_reads, grant_back}
+use Rattle.audit_laws.specs.Telling.{Told, Order, Creates, Deletes, SetsList, ShowsList, Lists, ShowsNames, Shows, told_error, told_said, told_grant, if_told, last_told, told_command}
 
 number_reads : (n : ℕ) → Reads (number n) (decimal n ∷ [])
 number_reads n = one_word (decimal n) (number_word n)

@@ -1,39 +1,20 @@
 -- What the cards of a deck name: its accounts, its data sets, and what its stream asks for.
 use Rattle.std.proofs.Common.{◌≡◌, ℕ, suc, Bool, true, false, ◌&&◌, List, [], ◌∷◌, ◌++◌, take, ◌-◌, Option, Some, None, refl, subst, inl, inr, cond}
-use Rattle.std.specs.Prelude.{◌==◌, ◌⊎◌, IfSome, IsTrue, bytes_eq, nat_eq, codes, if◌then◌else◌}
-use Rattle.std.specs.Option.{option_and_then}
-use Rattle.std.specs.List.{AllByRecursion, list_all}
+use Rattle.std.specs.{Prelude.{◌==◌, ◌⊎◌, IfSome, IsTrue, bytes_eq, nat_eq, codes, if◌then◌else◌}, Option.{option_and_then}, List.{AllByRecursion, list_all}}
 use Rattle.std.specs.Cmp.Lexicographic.{pointwise}
-use Rattle.mon_text.specs.Names.{IsName, is_name}
-use Rattle.mon_text.specs.Counts.{is_count, value_of}
-use Rattle.mon_text.specs.Lines.{words}
-use Rattle.mon_access.specs.declared.account.Account.{Account}
-use Rattle.mon_access.specs.Accounts.{find_account}
-use Rattle.mon_catalogue.specs.declared.mode.Mode.{Mode}
-use Rattle.mon_catalogue.specs.declared.mode.Mode.TheVariants.{Seq}
-use Rattle.mon_catalogue.specs.declared.version.Version.{Version}
-use Rattle.mon_catalogue.specs.declared.version.Version.TheVariants.{One, Two}
-use Rattle.mon_catalogue.specs.declared.head.Head.{Head}
-use Rattle.mon_catalogue.specs.Head.{head_of, head_with}
-use Rattle.mon_catalogue.specs.Modes.{mode_of}
-use Rattle.mon_catalogue.specs.Sets.{Sets}
+use Rattle.mon_text.specs.{Names.{IsName, is_name}, Counts.{is_count, value_of}, Lines.{words}}
+use Rattle.mon_access.specs.{declared.account.Account.{Account}, Accounts.{find_account}}
+use Rattle.mon_catalogue.specs.declared.{mode.Mode.{Mode}, mode.Mode.TheVariants.{Seq}, version.Version.{Version}, head.Head.{Head}}
+use Rattle.mon_catalogue.specs.{declared.version.Version.TheVariants.{One, Two}, Head.{head_of, head_with}, Modes.{mode_of}, Sets.{Sets}}
 use Rattle.mon_catalogue.specs.Spelling.{SpellsSets, head_for}
 use Rattle.acl_text.specs.declared.text.AclText.TheVariants.{Short, Long}
-use Rattle.deck_lines.specs.declared.command.Command.{Command}
-use Rattle.deck_lines.specs.declared.command.Command.TheVariants.{Create, Delete, SetAcl, ShowAcl, List as Listing, Catalog}
-use Rattle.deck_syntax.specs.declared.job_deck.JobDeck.{JobDeck}
-use Rattle.deck_syntax.specs.declared.job_deck.UnitCard.{UnitCard}
-use Rattle.deck_syntax.specs.Decks.{Deck, Asked, Commands, Enters, Gives, Drains, Ending, Stopped, Refused}
-use Rattle.deck_syntax.specs.Sections.{deck_of}
-use Rattle.deck_syntax.specs.JobSpelling.{SpellsUnits}
+use Rattle.deck_lines.specs.declared.command.Command.{Command, TheVariants.{Create, Delete, SetAcl, ShowAcl, List as Listing, Catalog}}
+use Rattle.deck_syntax.specs.{declared.job_deck.JobDeck.{JobDeck}, declared.job_deck.UnitCard.{UnitCard}, Sections.{deck_of}, JobSpelling.{SpellsUnits}}
+use Rattle.deck_syntax.specs.{Decks.{Deck, Asked, Commands, Enters, Gives, Drains, Ending, Stopped, Refused}, Laws.{ReadingSpells, GoodBeginnings, BeginsGood}}
 use Rattle.deck_syntax.specs.Spelling.{SpellsAccounts, SpellsCommand, SpellsAsked, SpellsStream, IsDeck}
-use Rattle.deck_syntax.specs.Laws.{ReadingSpells, GoodBeginnings, BeginsGood}
-use Rattle.mon_monitor.specs.Events.{Event, Serve, Load, Give, Drain}
-use Rattle.mon_monitor.specs.Headline.{cards_of, job_of}
+use Rattle.mon_monitor.specs.{Events.{Event, Serve, Load, Give, Drain}, Headline.{cards_of, job_of}}
 use Rattle.deck_driver.specs.RunStates.{events_of}
-use Rattle.audit_laws.specs.Sound.{AreWellNamed, AreNamed}
-use Rattle.audit_laws.proofs.Words.{both}
-use Rattle.audit_laws.proofs.Exchanges.{NameSets}
+use Rattle.audit_laws.{specs.Sound.{AreWellNamed, AreNamed}, proofs.Words.{both}, proofs.Exchanges.{NameSets}}
 
 -- ACCOUNTS
 

@@ -1,48 +1,27 @@
 -- What a job asks and is answered: of what, and why not.
 use Rattle.std.proofs.Common.{◌≡◌, ℕ, zero, suc, Bool, true, false, List, [], ◌∷◌, length, Option, Some, None, Ok, Err, sym, subst, map}
-use Rattle.std.specs.Prelude.{◌==◌, IfSome, All, slice_get, slice_set, if◌then◌else◌}
-use Rattle.std.specs.Option.{option_map_or, option_and_then, unwrap_or}
+use Rattle.std.specs.{Prelude.{◌==◌, IfSome, All, slice_get, slice_set, if◌then◌else◌}, Option.{option_map_or, option_and_then, unwrap_or}}
 use Rattle.std.specs.List.{AllByRecursion, range_with_len}
 use Rattle.mon_text.specs.Names.{IsName}
-use Rattle.mon_acl.specs.declared.entries.Perms.{Perms}
-use Rattle.mon_acl.specs.Entries.{IsEntry}
-use Rattle.mon_access.specs.declared.account.Account.{Account}
-use Rattle.mon_access.specs.declared.access.Decision.{Decision}
+use Rattle.mon_acl.specs.{declared.entries.Perms.{Perms}, Entries.{IsEntry}}
+use Rattle.mon_access.specs.declared.{account.Account.{Account}, access.Decision.{Decision}}
 use Rattle.mon_access.specs.declared.access.Decision.TheVariants as decision
-use Rattle.mon_catalogue.specs.declared.mode.Mode.{Mode}
-use Rattle.mon_catalogue.specs.declared.mode.Mode.TheVariants.{Seq, Append}
-use Rattle.mon_catalogue.specs.declared.data_set.DataSet.{DataSet}
-use Rattle.mon_catalogue.specs.declared.data_set.SetFull.{SetFull}
-use Rattle.mon_catalogue.specs.Sets.{Sets, find_set}
-use Rattle.mon_catalogue.specs.Writing.{Change, Cut, Add, writing, change_refusal, records_after}
+use Rattle.mon_catalogue.specs.declared.{mode.Mode.{Mode}, mode.Mode.TheVariants.{Seq, Append}, data_set.DataSet.{DataSet}}
+use Rattle.mon_catalogue.specs.{declared.data_set.SetFull.{SetFull}, Sets.{Sets, find_set}, Writing.{Change, Cut, Add, writing, change_refusal, records_after}}
 use Rattle.interaction.specs.declared.answer.Reason.TheVariants as reason
 use Rattle.interaction.specs.declared.answer.Answer.TheVariants as answer
-use Rattle.interaction.specs.declared.request.Act.{Act}
-use Rattle.interaction.specs.declared.request.Act.TheVariants.{Read, Write, Endfile, Rewind}
-use Rattle.interaction.specs.declared.request.Request.{Request}
+use Rattle.interaction.specs.declared.request.{Act.{Act}, Act.TheVariants.{Read, Write, Endfile, Rewind}, Request.{Request}}
 use Rattle.mon_guard.specs.Acting as acting
-use Rattle.mon_guard.specs.Acting.{Acted, only_answered, read_at, changing, changed, done, asks, acted_on}
-use Rattle.mon_guard.specs.Deciding.{decision_on}
-use Rattle.mon_guard.specs.inner.Parts.{by_decision}
+use Rattle.mon_guard.specs.{Acting.{Acted, only_answered, read_at, changing, changed, done, asks, acted_on}, Deciding.{decision_on}, inner.Parts.{by_decision}}
 use Rattle.deck_syntax.specs.declared.job_deck.UnitCard.{UnitCard}
-use Rattle.mon_unit.specs.declared.note.NoteAct.{NoteAct}
-use Rattle.mon_unit.specs.declared.tie.Target.{Target}
-use Rattle.mon_unit.specs.declared.tie.Target.TheVariants.{Untied, Data, Spool, Set}
-use Rattle.mon_unit.specs.declared.tie.Tie.{Tie}
-use Rattle.mon_unit.specs.State.{UnitState}
-use Rattle.mon_unit.specs.Tying.{tied_to, first_target, new_units, tie_at}
-use Rattle.mon_unit.specs.Serving.{Reach, unit_of, note_act, acted_at, set_at, set_of, serve}
-use Rattle.mon_unit.specs.Laws.{target_of, targets}
-use Rattle.mon_unit.proofs.Looks.{targets_stay}
-use Rattle.scheduler.specs.Loads.{with_ties, tied_by, first_units}
-use Rattle.scheduler.specs.Exchanged.{Exchanged}
-use Rattle.audit.specs.Laws.{IsNamed}
-use Rattle.audit.specs.Grants.{granting_entry}
-use Rattle.audit.specs.Requests.{grant, permission, asked_of}
+use Rattle.mon_unit.specs.{declared.note.NoteAct.{NoteAct}, declared.tie.Target.{Target}, declared.tie.Tie.{Tie}, State.{UnitState}}
+use Rattle.mon_unit.specs.{declared.tie.Target.TheVariants.{Untied, Data, Spool, Set}, Tying.{tied_to, first_target, new_units, tie_at}}
+use Rattle.mon_unit.{specs.Serving.{Reach, unit_of, note_act, acted_at, set_at, set_of, serve}, specs.Laws.{target_of, targets}, proofs.Looks.{targets_stay}}
+use Rattle.scheduler.specs.{Loads.{with_ties, tied_by, first_units}, Exchanged.{Exchanged}}
+use Rattle.audit.specs.{Laws.{IsNamed}, Grants.{granting_entry}, Requests.{grant, permission, asked_of}}
 use Rattle.mon_monitor.specs.Headline.{Follow}
 use Rattle.audit_laws.specs.Sound.{IsEntryNamed, IsReasonNamed, AreWellNamed, IsSoundExchange}
-use Rattle.audit_laws.proofs.Sets.{found_named, reason_of_named, granting_named, change_stays}
-use Rattle.audit_laws.proofs.Jobs.{IsSoundRequest}
+use Rattle.audit_laws.proofs.{Sets.{found_named, reason_of_named, granting_named, change_stays}, Jobs.{IsSoundRequest}}
 
 -- WHAT UNITS ARE TIED TO
 

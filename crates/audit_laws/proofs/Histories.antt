@@ -1,35 +1,22 @@
 -- The entries of a history, and what stands in them.
 use Rattle.std.proofs.Common.{◌≡◌, ℕ, Bool, true, false, List, [], ◌∷◌, ◌++◌, map, Option, Some, None, refl, sym, ap, ◌∙◌, subst, inl, inr, cond}
-use Rattle.std.specs.Prelude.{◌==◌, IfSome}
-use Rattle.std.specs.List.{AllByRecursion}
-use Rattle.std.specs.Str.Lines.{lines}
-use Rattle.std.proofs.lemmas.Bool.Decides.{Decides-eqb}
+use Rattle.std.{specs.Prelude.{◌==◌, IfSome}, specs.List.{AllByRecursion}, specs.Str.Lines.{lines}, proofs.lemmas.Bool.Decides.{Decides-eqb}}
 use Rattle.mon_text.specs.Names.{IsName}
 use Rattle.mon_access.specs.declared.account.Account.{Account}
 use Rattle.mon_catalogue.specs.Sets.{Sets}
 use Rattle.mon_command.specs.Commanded as commands
-use Rattle.mon_command.specs.Commanded.{answered}
-use Rattle.mon_command.specs.Saying.{said_of}
-use Rattle.mon_unit.specs.Serving.{serve}
-use Rattle.mon_unit.specs.Laws.{target_of}
-use Rattle.deck_syntax.specs.declared.job_deck.JobDeck.{JobDeck}
-use Rattle.deck_syntax.specs.Laws.{ReadingSpells, GoodBeginnings}
-use Rattle.deck_syntax.specs.Sections.{deck_of}
+use Rattle.mon_command.specs.{Commanded.{answered}, Saying.{said_of}}
+use Rattle.mon_unit.specs.{Serving.{serve}, Laws.{target_of}}
+use Rattle.deck_syntax.specs.{declared.job_deck.JobDeck.{JobDeck}, Laws.{ReadingSpells, GoodBeginnings}, Sections.{deck_of}}
 use Rattle.deck_syntax.specs.Decks.{Asked as Card, Ending, Stopped, Refused as DeckRefused}
-use Rattle.scheduler.specs.States.{SlotState}
-use Rattle.scheduler.specs.Loads.{with_ties, first_units}
-use Rattle.scheduler.specs.Exchanged.{Exchanged}
+use Rattle.scheduler.specs.{States.{SlotState}, Loads.{with_ties, first_units}, Exchanged.{Exchanged}}
 use Rattle.audit.specs.Laws.{IsNamed}
-use Rattle.mon_monitor.specs.Events.{Event, Serve, Load, Drain}
-use Rattle.mon_monitor.specs.History.{Entry, Entered, Refused, Asked, Ended, Ordered, is_of, own, cards_in}
+use Rattle.mon_monitor.specs.{Events.{Event, Serve, Load, Drain}, History.{Entry, Entered, Refused, Asked, Ended, Ordered, is_of, own, cards_in}}
 use Rattle.mon_monitor.specs.Headline.{IsJob, Course, job_of, cards_of, Lead}
 use Rattle.deck_driver.specs.RunStates.{events_of, played_run_state}
-use Rattle.deck_run.specs.Runs.{run_state_of}
-use Rattle.deck_run.specs.Headline.{Headline, history_of, asked_of}
-use Rattle.audit_laws.specs.Sound.{ListsAreSpelled, AreWellNamed, IsReasonNamed, IsSaidNamed, IsSound}
-use Rattle.audit_laws.specs.Laws.{HistoriesAreSound}
-use Rattle.audit_laws.proofs.Sets.{answers_named}
-use Rattle.audit_laws.proofs.Exchanges.{IsFor, cards_tied, follow_named, serve_answers, serve_stays}
+use Rattle.deck_run.specs.{Runs.{run_state_of}, Headline.{Headline, history_of, asked_of}}
+use Rattle.audit_laws.specs.{Sound.{ListsAreSpelled, AreWellNamed, IsReasonNamed, IsSaidNamed, IsSound}, Laws.{HistoriesAreSound}}
+use Rattle.audit_laws.proofs.{Sets.{answers_named}, Exchanges.{IsFor, cards_tied, follow_named, serve_answers, serve_stays}}
 use Rattle.audit_laws.proofs.Decks.{HaveNames, IsNamedJob, AreNamedEvents, known_name, deck_named, events_named, cards_named, job_named}
 
 -- OF JOBS

@@ -2,34 +2,22 @@
 use Rattle.std.proofs.Common.{◌≡◌, ℕ, Bool, List, [], ◌∷◌, ◌++◌, get_or, refl, ap, ◌∙◌, append_assoc, Option, Some, None}
 use Rattle.std.specs.Prelude.{codes, decimal, ◌==◌, if◌then◌else◌, IfSome, option_map}
 use Rattle.mon_text.specs.Names.{IsName}
-use Rattle.interaction.specs.declared.answer.Reason.{Reason}
-use Rattle.interaction.specs.declared.answer.Answer.{Answer}
-use Rattle.interaction.specs.declared.answer.Answer.TheVariants.{Done, Got, EndOfFile, Denied, Full}
+use Rattle.interaction.specs.declared.answer.{Reason.{Reason}, Answer.{Answer}, Answer.TheVariants.{Done, Got, EndOfFile, Denied, Full}}
 use Rattle.unit_ties.specs.declared.unit_error.UnitError.TheVariants.{UnitRange, UnitTwice}
-use Rattle.sno_cards.specs.declared.refusal.SyntaxCode.{SyntaxCode}
+use Rattle.sno_cards.specs.{declared.refusal.SyntaxCode.{SyntaxCode}, Codes.{code_symbol}}
 use Rattle.sno_cards.specs.declared.refusal.SyntaxCode.TheVariants.{NoEndLine, NothingToContinue, UnknownControlCard, BadConstant, BlankMissing, Unexpected, LabelTaken, VariableNeeded, StatementTooLarge, BadEnd}
-use Rattle.sno_cards.specs.Codes.{code_symbol}
-use Rattle.sno_text.specs.declared.fault.Fault.{Fault}
+use Rattle.sno_text.specs.{declared.fault.Fault.{Fault}, Faults.{fault_name}}
 use Rattle.sno_text.specs.declared.fault.Fault.TheVariants as fault
-use Rattle.sno_text.specs.Faults.{fault_name}
 use Rattle.mon_command.specs.Printouts.{word, number}
-use Rattle.mon_unit.specs.declared.note.NoteAct.{NoteAct}
-use Rattle.mon_unit.specs.declared.tie.Target.{Target}
-use Rattle.audit.specs.declared.request.AuditedRequest.{AuditedRequest}
-use Rattle.sno_run.specs.declared.ending.Ending.{Ending}
-use Rattle.load_refusal.specs.declared.load_error.LoadError.{LoadError}
-use Rattle.audit.specs.Requests.{act_word, by_words, place_words, request_line}
-use Rattle.audit.specs.Words.{target_word, outcome_word, job_line}
-use Rattle.job_end.specs.Printouts.{ending_words, refusal_words}
-use Rattle.job_end.specs.AuditLines.{loaded_line, refused_line}
-use Rattle.audit.specs.Laws.{IsNamed}
-use Rattle.audit_laws.specs.Sound.{IsEntryNamed, IsReasonNamed}
-use Rattle.sno_run.specs.declared.ending.Ending.TheVariants.{MatchLimit, Fault as Faults, Normal, StatementLimit, Memory}
-use Rattle.load_refusal.specs.declared.load_error.LoadError.TheVariants.{NoSlot, NoAccount as LacksAccount, Cards, Syntax}
-use Rattle.mon_unit.specs.declared.note.NoteAct.TheVariants.{Read, Write, Endfile, Rewind}
+use Rattle.mon_unit.specs.declared.{note.NoteAct.{NoteAct}, tie.Target.{Target}, note.NoteAct.TheVariants.{Read, Write, Endfile, Rewind}}
 use Rattle.mon_unit.specs.declared.tie.Target.TheVariants.{Untied, Data, Spool, Set}
+use Rattle.audit.specs.{declared.request.AuditedRequest.{AuditedRequest}, Requests.{act_word, by_words, place_words, request_line}, Laws.{IsNamed}}
+use Rattle.audit.specs.Words.{target_word, outcome_word, job_line}
+use Rattle.sno_run.specs.declared.ending.Ending.{Ending, TheVariants.{MatchLimit, Fault as Faults, Normal, StatementLimit, Memory}}
+use Rattle.load_refusal.specs.declared.load_error.LoadError.{LoadError, TheVariants.{NoSlot, NoAccount as LacksAccount, Cards, Syntax}}
+use Rattle.job_end.specs.{Printouts.{ending_words, refusal_words}, AuditLines.{loaded_line, refused_line}}
+use Rattle.audit_laws.specs.{Sound.{IsEntryNamed, IsReasonNamed}, Reading.{act_in, target_in, answer_in, reason_if, refusal_in, fault_in, told_in}}
 use Rattle.audit_laws.specs.Telling.{Told, Loads, Refuses, Asks, Ends, told_number, told_reason, told_answer, told_request, told_refusal, told_ending}
-use Rattle.audit_laws.specs.Reading.{act_in, target_in, answer_in, reason_if, refusal_in, fault_in, told_in}
 use Rattle.audit_laws.proofs.Words.{IsWord, Reads, no_words, one_word, joined, ended, same_words, name_word, number_word, IsLineOf, line_of}
 use Rattle.audit_laws.proofs.Reasons.{reason_list, reason_reads, if_back, begins_other}
 

@@ -1,11 +1,8 @@
 -- Lines one after the other, and what they tell.
 use Rattle.std.proofs.Common.{◌≡◌, ℕ, List, [], ◌∷◌, ◌++◌, refl, sym, ap, ◌∙◌, append_assoc, append-nil}
-use Rattle.std.specs.Prelude.{map}
-use Rattle.std.specs.List.{slice_split}
+use Rattle.std.specs.{Prelude.{map}, List.{slice_split}}
 use Rattle.mon_text.specs.Characters.{is_blank}
-use Rattle.audit_laws.specs.Telling.{Told}
-use Rattle.audit_laws.specs.Reading.{told_in, audit_tells}
-use Rattle.audit_laws.proofs.Words.{IsLineOf, line_found}
+use Rattle.audit_laws.{specs.Telling.{Told}, specs.Reading.{told_in, audit_tells}, proofs.Words.{IsLineOf, line_found}}
 
 -- a text is lines that tell these, whatever follows
 abbrev pub Tells : List ℕ → List Told → Type 0

@@ -1,25 +1,13 @@
 -- Why and by what: words that are read back.
 use Rattle.std.proofs.Common.{◌≡◌, ℕ, Bool, true, false, ◌&&◌, List, [], ◌∷◌, ◌++◌, get_or, refl, sym, ap, ◌∙◌, true≢false, append-nil, Option, Some, None}
-use Rattle.std.specs.Prelude.{codes, ◌==◌, if◌then◌else◌, IfSome, option_map}
-use Rattle.std.specs.Option.{unwrap_or}
-use Rattle.std.specs.List.{list_all}
-use Rattle.std.proofs.lemmas.Bool.Decides.{Decides-eqb}
-use Rattle.std.proofs.lemmas.List.Folds.{list_all-append}
-use Rattle.mon_text.specs.Characters.{is_letter, is_digit}
-use Rattle.mon_text.specs.Names.{is_name_character, IsName}
-use Rattle.mon_acl.specs.declared.entries.Tag.{Tag}
-use Rattle.mon_acl.specs.declared.entries.Tag.TheVariants.{UserObj, User, GroupObj, Group, Mask, Other}
-use Rattle.mon_acl.specs.Entries.{tag_word}
-use Rattle.interaction.specs.declared.answer.Reason.{Reason}
-use Rattle.interaction.specs.declared.answer.Reason.TheVariants.{By, NoSet, NotOwner, NoUnit, InStream, SpoolUnit, Mode as WrongMode}
-use Rattle.mon_command.specs.Printouts.{word}
-use Rattle.mon_command.specs.Replies.{reason_text}
-use Rattle.audit.specs.declared.grants.Grant.{Grant}
-use Rattle.audit.specs.declared.grants.Grant.TheVariants.{AsOwner, ByEntry}
-use Rattle.audit.specs.Grants.{granted_words}
-use Rattle.audit_laws.specs.Sound.{IsEntryNamed}
-use Rattle.audit_laws.specs.Telling.{told_reason, told_grant}
-use Rattle.audit_laws.specs.Reading.{name_in, named_in, reason_in, reason_if, grant_in}
+use Rattle.std.specs.{Prelude.{codes, ◌==◌, if◌then◌else◌, IfSome, option_map}, Option.{unwrap_or}, List.{list_all}}
+use Rattle.std.proofs.lemmas.{Bool.Decides.{Decides-eqb}, List.Folds.{list_all-append}}
+use Rattle.mon_text.specs.{Characters.{is_letter, is_digit}, Names.{is_name_character, IsName}}
+use Rattle.mon_acl.specs.{declared.entries.Tag.{Tag}, declared.entries.Tag.TheVariants.{UserObj, User, GroupObj, Group, Mask, Other}, Entries.{tag_word}}
+use Rattle.interaction.specs.declared.answer.Reason.{Reason, TheVariants.{By, NoSet, NotOwner, NoUnit, InStream, SpoolUnit, Mode as WrongMode}}
+use Rattle.mon_command.specs.{Printouts.{word}, Replies.{reason_text}}
+use Rattle.audit.specs.{declared.grants.Grant.{Grant}, declared.grants.Grant.TheVariants.{AsOwner, ByEntry}, Grants.{granted_words}}
+use Rattle.audit_laws.specs.{Sound.{IsEntryNamed}, Telling.{told_reason, told_grant}, Reading.{name_in, named_in, reason_in, reason_if, grant_in}}
 use Rattle.audit_laws.proofs.Words.{both, is_dark, is_word, IsWord, Reads, no_words, name_word, first_of}
 
 -- an entry's word

@@ -1,54 +1,31 @@
 -- Data sets whose names, and whose lists' entries, are such: so they stay, whatever is asked and ordered; and so is what is answered.
 use Rattle.std.proofs.Common.{◌≡◌, ℕ, zero, suc, Bool, true, false, nat_eq, List, [], ◌∷◌, ◌++◌, Option, Some, None, Result, Ok, Err, refl, cond}
-use Rattle.std.specs.Prelude.{IfSome, All, slice_get, if◌then◌else◌, option_map}
-use Rattle.std.specs.Option.{option_and_then}
-use Rattle.std.specs.Cmp.Lexicographic.{pointwise}
+use Rattle.std.specs.{Prelude.{IfSome, All, slice_get, if◌then◌else◌, option_map}, Option.{option_and_then}, Cmp.Lexicographic.{pointwise}}
 use Rattle.std.proofs.lemmas.List.Elements.{All-head, All-tail, All-nil, All-cons}
 use Rattle.mon_text.specs.Names.{IsName}
-use Rattle.mon_acl.specs.declared.entries.Perms.{Perms}
-use Rattle.mon_acl.specs.declared.entries.Tag.{Tag}
-use Rattle.mon_acl.specs.declared.entries.Tag.TheVariants as tag
-use Rattle.mon_acl.specs.declared.entries.Entry.{Entry}
-use Rattle.mon_acl.specs.declared.refusals.AclError.{AclError}
+use Rattle.mon_acl.specs.declared.{entries.Perms.{Perms}, entries.Tag.{Tag}, entries.Entry.{Entry}, refusals.AclError.{AclError}}
 use Rattle.mon_acl.specs.Entries.{IsEntry, IsAcl, is_qualified}
-use Rattle.acl_text.specs.declared.text.AclText.{AclText}
-use Rattle.acl_text.specs.declared.text.AclText.TheVariants.{Short, Long}
-use Rattle.acl_text.specs.Forms.{list_of_text}
+use Rattle.mon_acl.specs.declared.entries.Tag.TheVariants as tag
+use Rattle.acl_text.specs.{declared.text.AclText.{AclText}, declared.text.AclText.TheVariants.{Short, Long}, Forms.{list_of_text}}
 use Rattle.acl_text.specs.Laws.{ReadingSpells, LongReadingSpells}
-use Rattle.mon_access.specs.declared.account.Account.{Account}
-use Rattle.mon_access.specs.declared.access.Decider.{Decider}
+use Rattle.mon_access.specs.{declared.account.Account.{Account}, declared.access.Decider.{Decider}, declared.access.Decision.{Decision}, Granting.{granting}}
+use Rattle.mon_access.specs.{Accounts.{find_account}, Matches.{is_owner}}
 use Rattle.mon_access.specs.declared.access.Decider.TheVariants as decider
-use Rattle.mon_access.specs.declared.access.Decision.{Decision}
 use Rattle.mon_access.specs.declared.access.Decision.TheVariants as decision
-use Rattle.mon_access.specs.Accounts.{find_account}
-use Rattle.mon_access.specs.Granting.{granting}
-use Rattle.mon_access.specs.Matches.{is_owner}
-use Rattle.mon_catalogue.specs.declared.data_set.DataSet.{DataSet}
-use Rattle.mon_catalogue.specs.declared.mode.Mode.{Mode}
-use Rattle.mon_catalogue.specs.declared.catalogue.CreateError.{CreateError}
+use Rattle.mon_catalogue.specs.declared.{data_set.DataSet.{DataSet}, mode.Mode.{Mode}, catalogue.CreateError.{CreateError}}
+use Rattle.mon_catalogue.specs.{Sets.{Sets, find_set, create_refusal}, Changes.{with_changed, without_set}, Writing.{Change, recorded}}
 use Rattle.mon_catalogue.specs.declared.catalogue.CreateError.TheVariants as create
-use Rattle.mon_catalogue.specs.Sets.{Sets, find_set, create_refusal}
-use Rattle.mon_catalogue.specs.Changes.{with_changed, without_set}
-use Rattle.mon_catalogue.specs.Writing.{Change, recorded}
-use Rattle.interaction.specs.declared.answer.Reason.{Reason}
-use Rattle.interaction.specs.declared.answer.Reason.TheVariants.{By, NotOwner}
-use Rattle.mon_guard.specs.Acting.{changed}
-use Rattle.mon_guard.specs.Deciding.{decision_on, to_read, to_execute, may_be_shown}
-use Rattle.mon_guard.specs.Owning.{new_set, new_list, owner_denial, plain}
-use Rattle.mon_guard.specs.Reasons.{reason_at, reason_of}
-use Rattle.mon_guard.specs.Views.{acl_part, names_shown}
-use Rattle.mon_guard.specs.inner.Parts.{given, acl_set_unless}
+use Rattle.interaction.specs.declared.answer.Reason.{Reason, TheVariants.{By, NotOwner}}
+use Rattle.mon_guard.specs.{Acting.{changed}, Deciding.{decision_on, to_read, to_execute, may_be_shown}, Owning.{new_set, new_list, owner_denial, plain}}
+use Rattle.mon_guard.specs.{Reasons.{reason_at, reason_of}, Views.{acl_part, names_shown}, inner.Parts.{given, acl_set_unless}}
 use Rattle.mon_guard.proofs.Shorthand.{owner_denial_of, removed_unless, created_unless, records_of, acl_of}
-use Rattle.deck_lines.specs.declared.command.Command.{Command}
+use Rattle.deck_lines.specs.{declared.command.Command.{Command}, Commands.{account_of}}
 use Rattle.deck_lines.specs.declared.command.Command.TheVariants.{Create, Delete, SetAcl, ShowAcl, List as Listing, Catalog}
 use Rattle.mon_command.specs.Commanded.{Served, Records, Shown, told_by, creation_reply, removal_reply, acl_reply, shown_as, served, answered}
-use Rattle.mon_command.specs.Saying.{said_of}
-use Rattle.mon_command.proofs.Shorthand.{served_if_known}
-use Rattle.deck_lines.specs.Commands.{account_of}
+use Rattle.mon_command.{specs.Saying.{said_of}, proofs.Shorthand.{served_if_known}}
 use Rattle.audit.specs.declared.grants.Grant.TheVariants.{AsOwner, ByEntry}
 use Rattle.audit.specs.Grants.{granting_entry, by_entry, by_owner, to_see_list, command_grant, known_grant}
-use Rattle.audit_laws.specs.Sound.{ListsAreSpelled, IsEntryNamed, IsWellNamed, AreWellNamed, AreNamed, IsSaidNamed}
-use Rattle.audit_laws.proofs.Reasons.{IsGrantNamed}
+use Rattle.audit_laws.{specs.Sound.{ListsAreSpelled, IsEntryNamed, IsWellNamed, AreWellNamed, AreNamed, IsSaidNamed}, proofs.Reasons.{IsGrantNamed}}
 
 -- AN ENTRY
 

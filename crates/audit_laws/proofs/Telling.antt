@@ -1,50 +1,26 @@
 -- What the lines of entries tell.
 use Rattle.std.proofs.Common.{◌≡◌, ℕ, Bool, true, false, List, [], ◌∷◌, ◌++◌, map, Option, Some, None, Result, Ok, Err, refl, sym, ap, ◌∙◌, subst, inl, inr}
-use Rattle.std.specs.Prelude.{◌⊎◌, IfSome, if◌then◌else◌, option_map}
-use Rattle.std.specs.Option.{option_and_then}
-use Rattle.std.specs.Result.{result_ok}
-use Rattle.std.specs.List.{AllByRecursion, flat_map, list_all}
-use Rattle.mon_text.specs.Names.{IsName}
-use Rattle.mon_text.proofs.Counted.{digits_of_decimal}
-use Rattle.mon_acl.specs.Permissions.{to_execute}
-use Rattle.mon_acl.specs.declared.entries.Entry.{Entry as ListEntry}
-use Rattle.mon_acl.specs.declared.refusals.AclError.{AclError}
-use Rattle.mon_acl.specs.Entries.{IsAcl}
-use Rattle.acl_text.specs.Forms.{list_of_text}
-use Rattle.acl_text.specs.Printing.{short_form}
-use Rattle.acl_text.specs.Laws.{ReadsBack}
-use Rattle.mon_access.specs.declared.account.Account.{Account}
-use Rattle.mon_access.specs.Matches.{is_owner}
-use Rattle.mon_catalogue.specs.declared.data_set.DataSet.{DataSet}
-use Rattle.mon_catalogue.specs.Sets.{Sets, find_set}
+use Rattle.std.specs.{Prelude.{◌⊎◌, IfSome, if◌then◌else◌, option_map}, Option.{option_and_then}, Result.{result_ok}, List.{AllByRecursion, flat_map, list_all}}
+use Rattle.mon_text.{specs.Names.{IsName}, proofs.Counted.{digits_of_decimal}}
+use Rattle.mon_acl.specs.{Permissions.{to_execute}, declared.entries.Entry.{Entry as ListEntry}, declared.refusals.AclError.{AclError}, Entries.{IsAcl}}
+use Rattle.acl_text.specs.{Forms.{list_of_text}, Printing.{short_form}, Laws.{ReadsBack}}
+use Rattle.mon_access.specs.{declared.account.Account.{Account}, Matches.{is_owner}}
+use Rattle.mon_catalogue.specs.{declared.data_set.DataSet.{DataSet}, Sets.{Sets, find_set}}
 use Rattle.mon_guard.specs.Views.{names_shown}
-use Rattle.deck_lines.specs.declared.command.Command.{Command}
-use Rattle.deck_lines.specs.declared.command.Command.TheVariants.{Create, Delete, SetAcl, ShowAcl, List as Listing, Catalog}
-use Rattle.mon_command.specs.Printouts.{word}
+use Rattle.deck_lines.specs.declared.command.Command.{Command, TheVariants.{Create, Delete, SetAcl, ShowAcl, List as Listing, Catalog}}
+use Rattle.mon_command.specs.{Printouts.{word}, Saying.{said_of}}
 use Rattle.mon_command.specs.Commanded as commands
-use Rattle.mon_command.specs.Saying.{said_of}
 use Rattle.job_end.specs.AuditLines.{loaded_line, refused_line, ended_line}
-use Rattle.audit.specs.declared.grants.Grant.{Grant}
-use Rattle.audit.specs.declared.grants.Grant.TheVariants.{AsOwner}
-use Rattle.audit.specs.Grants.{by_entry, by_owner, known_grant}
-use Rattle.audit.specs.Requests.{asked_of, request_line}
-use Rattle.audit.specs.Catalogs.{shown_line, shown_lines}
-use Rattle.audit.specs.Commands.{said_line, spelled}
-use Rattle.mon_monitor.specs.History.{Entry, Entered, Refused, Asked, Ended, Ordered}
-use Rattle.mon_monitor.specs.Audit.{audit_line, audit}
-use Rattle.deck_run.specs.Audited.{Audited}
-use Rattle.deck_run.specs.Headline.{history_of}
-use Rattle.audit_laws.specs.Telling.{Told, Loads, Refuses, Asks, Ends, Orders, Shows, told_number, told_grant, told_command}
-use Rattle.audit_laws.specs.Reading.{audit_tells}
-use Rattle.audit_laws.specs.Histories.{list_of, told_shown, told_of}
-use Rattle.audit_laws.specs.Sound.{ListsAreSpelled, AreWellNamed, AreNamed, IsSound}
-use Rattle.audit_laws.specs.Laws.{NumbersAreTold, LinesAreTold, AuditsAreRead, HistoriesAreSound, AuditTellsHistory}
-use Rattle.audit_laws.proofs.Words.{both}
-use Rattle.audit_laws.proofs.Lines.{Tells, no_lines, one_line, then_lines, whole}
+use Rattle.audit.specs.{declared.grants.Grant.{Grant}, declared.grants.Grant.TheVariants.{AsOwner}, Grants.{by_entry, by_owner, known_grant}}
+use Rattle.audit.specs.{Requests.{asked_of, request_line}, Catalogs.{shown_line, shown_lines}, Commands.{said_line, spelled}}
+use Rattle.mon_monitor.specs.{History.{Entry, Entered, Refused, Asked, Ended, Ordered}, Audit.{audit_line, audit}}
+use Rattle.deck_run.specs.{Audited.{Audited}, Headline.{history_of}}
+use Rattle.audit_laws.specs.{Telling.{Told, Loads, Refuses, Asks, Ends, Orders, Shows, told_number, told_grant, told_command}, Reading.{audit_tells}}
+use Rattle.audit_laws.{specs.Histories.{list_of, told_shown, told_of}, specs.Sound.{ListsAreSpelled, AreWellNamed, AreNamed, IsSound}, proofs.Words.{both}}
+use Rattle.audit_laws.{specs.Laws.{NumbersAreTold, LinesAreTold, AuditsAreRead, HistoriesAreSound, AuditTellsHistory}, proofs.Exchanges.{request_sound}}
+use Rattle.audit_laws.proofs.{Lines.{Tells, no_lines, one_line, then_lines, whole}, Sets.{by_entry_named, known_grant_named, shown_named}}
 use Rattle.audit_laws.proofs.Jobs.{loaded_reads, loaded_back, refused_reads, refused_back, ended_reads, ended_back, asked_reads, asked_back}
 use Rattle.audit_laws.proofs.Commands.{spelled_text, IsGrantFor, IsSoundCommand, said_line_reads, ordered_back, shown_reads, shown_back}
-use Rattle.audit_laws.proofs.Sets.{by_entry_named, known_grant_named, shown_named}
-use Rattle.audit_laws.proofs.Exchanges.{request_sound}
 
 pub numbers_are_told : NumbersAreTold
 numbers_are_told n small = (digits_of_decimal n small).1

@@ -1,13 +1,8 @@
 -- Texts of words, each behind one blank: their words are found again.
 use Rattle.std.proofs.Common.{◌≡◌, ℕ, zero, suc, ◌+◌, ◌/◌, ◌%◌, ◌<◌, Bool, true, false, ◌&&◌, ◌||◌, List, [], ◌∷◌, ◌++◌, refl, sym, ap, ◌∙◌, true≢false, append_assoc, append-nil, subst, cond, arith, lt-ltb, ne_eqb}
-use Rattle.std.specs.Fmt.{digits, digits_onto, digit_glyph}
-use Rattle.std.specs.Prelude.{decimal, ◌==◌, not, if◌then◌else◌, flat_map}
-use Rattle.std.specs.List.{list_all, slice_split, onto_first}
-use Rattle.std.proofs.lemmas.Bool.Decides.{Decides-eqb}
-use Rattle.std.proofs.lemmas.List.Folds.{list_all-append}
-use Rattle.std.proofs.lemmas.List.Concat.{flat_map-append}
-use Rattle.mon_text.specs.Characters.{is_letter, is_digit, is_blank, is_line_feed}
-use Rattle.mon_text.specs.Names.{is_name_character, IsName}
+use Rattle.std.specs.{Fmt.{digits, digits_onto, digit_glyph}, Prelude.{decimal, ◌==◌, not, if◌then◌else◌, flat_map}, List.{list_all, slice_split, onto_first}}
+use Rattle.std.proofs.lemmas.{Bool.Decides.{Decides-eqb}, List.Folds.{list_all-append}, List.Concat.{flat_map-append}}
+use Rattle.mon_text.specs.{Characters.{is_letter, is_digit, is_blank, is_line_feed}, Names.{is_name_character, IsName}}
 use Rattle.audit_laws.specs.Reading.{lines_in}
 use Rattle.mon_command.specs.Printouts.{word}
 

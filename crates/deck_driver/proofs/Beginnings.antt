@@ -2,12 +2,9 @@
 use Rattle.std.proofs.Common.{◌≡◌, ℕ, List, [], ◌++◌, refl, sym, ap, ◌∙◌, append_assoc, append-nil}
 use Rattle.scheduler.specs.Marks.{Marks}
 use Rattle.deck_lines.specs.declared.deck_error.DeckError.TheVariants.{Truncated}
-use Rattle.deck_driver.specs.declared.options.Counts.{Counts}
-use Rattle.deck_driver.specs.declared.options.Options.{Options}
-use Rattle.deck_driver.specs.declared.section.DeckState.{DeckState}
+use Rattle.deck_driver.specs.declared.{options.Counts.{Counts}, options.Options.{Options}, section.DeckState.{DeckState}}
+use Rattle.deck_driver.{specs.Feeds.{outcome, outcome_of, behind, Outcome, Begins}, proofs.Following.{ends_here, outcome_refused}}
 use Rattle.deck_driver.specs.declared.section.DeckState.TheVariants as state
-use Rattle.deck_driver.specs.Feeds.{outcome, outcome_of, behind, Outcome, Begins}
-use Rattle.deck_driver.proofs.Following.{ends_here, outcome_refused}
 
 pub same_begins : (t s : List ℕ) → s ≡ t → Begins t s
 same_begins t s same = ([], same ∙ sym (append-nil t))

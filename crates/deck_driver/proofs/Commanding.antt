@@ -2,35 +2,20 @@
 use Rattle.std.proofs.Common.{◌≡◌, ◌⊎◌, inl, inr, ℕ, suc, ◌+◌, Bool, true, false, List, [], ◌∷◌, ◌++◌, Result, Ok, Err, OnErr, OnOk, refl, sym, ap, ◌∙◌, arith, append_assoc, append-nil}
 use Rattle.std.proofs.lemmas.Result.{on_ok_weaker, on_err_weaker}
 use Rattle.mon_catalogue.specs.Sets.{Sets}
-use Rattle.mon_device.specs.Putting.{Standing, Puts}
-use Rattle.mon_device.proofs.Putting.{puts_nothing}
+use Rattle.mon_device.{specs.Putting.{Standing, Puts}, proofs.Putting.{puts_nothing}}
 use Rattle.scheduler.specs.Marks.{Marks}
 use Rattle.deck_lines.specs.declared.command.Command.{Command}
-use Rattle.deck_syntax.specs.declared.job_deck.JobDeck.{JobDeck}
-use Rattle.deck_syntax.specs.declared.job.OpenJob.{OpenJob}
-use Rattle.mon_monitor.specs.SystemStates.{SystemState}
-use Rattle.mon_monitor.specs.Events.{Event, Serve, Load, Give, Drain}
-use Rattle.mon_monitor.specs.Printouts.{Printout, printout_text, printouts_text}
-use Rattle.mon_monitor.specs.Played.{Played, played, happened}
-use Rattle.mon_monitor.proofs.Parts.{and_played}
-use Rattle.mon_monitor.specs.Happening.{Happens, Breaks, Closes}
-use Rattle.mon_monitor.specs.History.{event_entries, history}
-use Rattle.mon_monitor.specs.Audit.{audit, event_lines, audit_of}
-use Rattle.mon_monitor.proofs.Auditing.{audit_append}
+use Rattle.deck_syntax.specs.{declared.job_deck.JobDeck.{JobDeck}, declared.job.OpenJob.{OpenJob}, Sections.{asked_then, stopped}, Jobs.{job_deck_of}}
 use Rattle.deck_syntax.specs.Decks.{Asked, Commands, Enters, Gives, Drains, Cards, Ending, Stopped, Refused}
-use Rattle.deck_syntax.specs.Sections.{asked_then, stopped}
-use Rattle.deck_syntax.specs.Jobs.{job_deck_of}
-use Rattle.deck_driver.specs.declared.options.Counts.{Counts}
-use Rattle.deck_driver.specs.RunStates.{over, events_of, events_in, nothing_counted, both_counted, all_counted}
-use Rattle.deck_driver.proofs.Counted.{one_counted}
-use Rattle.deck_driver.proofs.Verdicts.{at_end, verdict}
-use Rattle.deck_driver.specs.Printouts.{closing}
-use Rattle.deck_driver.specs.Feeds.{outcome_of, behind, more, concluded, Conclusion, Good, Bad, Outcome, Begins}
-use Rattle.deck_driver.specs.Audits.{told_to}
+use Rattle.mon_monitor.specs.{SystemStates.{SystemState}, Events.{Event, Serve, Load, Give, Drain}, Played.{Played, played, happened}}
+use Rattle.mon_monitor.{specs.Printouts.{Printout, printout_text, printouts_text}, proofs.Parts.{and_played}, specs.Happening.{Happens, Breaks, Closes}}
+use Rattle.mon_monitor.{specs.History.{event_entries, history}, specs.Audit.{audit, event_lines, audit_of}, proofs.Auditing.{audit_append}}
+use Rattle.deck_driver.specs.{declared.options.Counts.{Counts}, RunStates.{over, events_of, events_in, nothing_counted, both_counted, all_counted}}
+use Rattle.deck_driver.specs.{Printouts.{closing}, Feeds.{outcome_of, behind, more, concluded, Conclusion, Good, Bad, Outcome, Begins}, Audits.{told_to}}
 use Rattle.deck_driver.specs.inner.Lines.{GoesOn, counted_by, Served, ServeBreaks, Stopping, StopBreaks}
-use Rattle.deck_reader.specs.declared.stream_reader.Event.{Event as AnyEvent}
+use Rattle.deck_driver.proofs.{Counted.{one_counted}, Verdicts.{at_end, verdict}}
+use Rattle.deck_reader.specs.{declared.stream_reader.Event.{Event as AnyEvent}, Events.{event_then}}
 use Rattle.deck_reader.specs.declared.stream_reader.Event.TheVariants as event
-use Rattle.deck_reader.specs.Events.{event_then}
 
 -- COUNTS
 

@@ -1,7 +1,6 @@
 -- How a card counts: as a job, as a command, or as neither.
 use Rattle.deck_syntax.specs.Decks.{Asked, Commands, Enters}
-use Rattle.deck_driver.specs.declared.options.Counts.{Counts}
-use Rattle.deck_driver.specs.RunStates.{nothing_counted}
+use Rattle.deck_driver.specs.{declared.options.Counts.{Counts}, RunStates.{nothing_counted}}
 
 abbrev pub one_counted : Asked → Counts
 one_counted (Commands command) = record { jobs = 0; commands = 1 }

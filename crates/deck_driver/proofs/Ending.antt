@@ -1,18 +1,12 @@
 -- The end of a deck that was refused before, or for which memory ran out.
 use Rattle.std.proofs.Common.{◌≡◌, ℕ, List, [], ◌++◌, Option, Some, Result, Ok, Err, refl, ap, ◌∙◌, append-nil}
-use Rattle.mon_device.specs.Putting.{Standing, Puts}
-use Rattle.mon_device.proofs.Putting.{puts_nothing}
+use Rattle.mon_device.{specs.Putting.{Standing, Puts}, proofs.Putting.{puts_nothing}}
 use Rattle.scheduler.specs.Marks.{Marks}
 use Rattle.deck_lines.specs.declared.deck_error.DeckError.{DeckError}
-use Rattle.deck_driver.specs.declared.fault.RunError.{RunError}
-use Rattle.deck_driver.specs.declared.fault.RunError.TheVariants.{DeckRefused, Memory}
-use Rattle.deck_driver.specs.declared.feed.DeckFeed.{DeckFeed}
-use Rattle.deck_driver.specs.declared.section.DeckState.{DeckState}
+use Rattle.deck_driver.specs.declared.{fault.RunError.{RunError}, fault.RunError.TheVariants.{DeckRefused, Memory}, feed.DeckFeed.{DeckFeed}}
+use Rattle.deck_driver.specs.{declared.section.DeckState.{DeckState}, Feeds.{Bad, Begins, error_at}, Abstraction.{told, audit_told}}
+use Rattle.deck_driver.proofs.{Telling.{error_of}, Pieces.{refused_told, refused_silent}}
 use Rattle.deck_driver.specs.declared.section.DeckState.TheVariants as state
-use Rattle.deck_driver.specs.Feeds.{Bad, Begins, error_at}
-use Rattle.deck_driver.specs.Abstraction.{told, audit_told}
-use Rattle.deck_driver.proofs.Telling.{error_of}
-use Rattle.deck_driver.proofs.Pieces.{refused_told, refused_silent}
 
 abbrev pub Began : DeckFeed → List ℕ → Standing → Type 0
 Began f out a =

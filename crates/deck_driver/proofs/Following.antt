@@ -1,35 +1,22 @@
 -- What comes of the lines of a deck from the middle of it on.
 use Rattle.std.proofs.Common.{◌≡◌, ℕ, ◌<◌, inl, inr, Bool, true, false, List, [], ◌∷◌, length, Option, Some, refl, sym, ap, ◌∙◌, arith, nat_lt, if◌then◌else◌}
-use Rattle.std.proofs.lemmas.Bool.Decides.{nat_tests}
-use Rattle.std.specs.List.{list_all}
-use Rattle.std.specs.Option.{option_or}
-use Rattle.mon_text.specs.Feeding.{Alike}
-use Rattle.mon_text.specs.Lines.{is_line, words}
+use Rattle.std.{proofs.lemmas.Bool.Decides.{nat_tests}, specs.List.{list_all}, specs.Option.{option_or}}
+use Rattle.mon_text.specs.{Feeding.{Alike}, Lines.{is_line, words}}
 use Rattle.mon_access.specs.declared.account.Account.{Account}
 use Rattle.scheduler.specs.Marks.{Marks}
 use Rattle.mon_monitor.specs.Abstraction.{system_of}
-use Rattle.deck_lines.specs.declared.deck_error.DeckError.{DeckError}
-use Rattle.deck_lines.specs.declared.deck_error.DeckError.TheVariants.{LineTooLong, BadCharacter, Truncated}
+use Rattle.deck_lines.specs.declared.deck_error.DeckError.{DeckError, TheVariants.{LineTooLong, BadCharacter, Truncated}}
 use Rattle.deck_lines.specs.Refusing.{unless, line_refusal, is_dollar_line}
-use Rattle.deck_syntax.specs.Decks.{Deck}
-use Rattle.deck_syntax.specs.Requests.{end_refusal, list_text_refusal, list_line_refusal, is_list_character}
-use Rattle.deck_syntax.specs.Sections.{Open, Closed, InList, InJob, refused_early, refused_on_line, stream_section}
-use Rattle.deck_syntax.proofs.Shorthand.{deck_goes_on}
-use Rattle.deck_reader.specs.declared.front_reader.FrontReader.{FrontReader}
+use Rattle.deck_syntax.specs.{Decks.{Deck}, Requests.{end_refusal, list_text_refusal, list_line_refusal, is_list_character}}
+use Rattle.deck_syntax.{specs.Sections.{Open, Closed, InList, InJob, refused_early, refused_on_line, stream_section}, proofs.Shorthand.{deck_goes_on}}
+use Rattle.deck_reader.specs.declared.{front_reader.FrontReader.{FrontReader}, stream_reader.StreamReader.{StreamReader}}
+use Rattle.deck_reader.{specs.Reading.{deck_ahead, accounts_read}, specs.Events.{open_in, refusal_in}, proofs.Following.{cards_refused}}
 use Rattle.deck_reader.specs.declared.front_reader.FrontReader.TheVariants as front
-use Rattle.deck_reader.specs.declared.stream_reader.StreamReader.{StreamReader}
 use Rattle.deck_reader.specs.declared.stream_reader.StreamReader.TheVariants as reader
-use Rattle.deck_reader.specs.Reading.{deck_ahead, accounts_read}
-use Rattle.deck_reader.specs.Events.{open_in, refusal_in}
-use Rattle.deck_reader.proofs.Following.{cards_refused}
-use Rattle.deck_driver.specs.declared.options.Options.{Options}
-use Rattle.deck_driver.specs.declared.section.Section.{Section}
+use Rattle.deck_driver.specs.declared.{options.Options.{Options}, section.Section.{Section}, section.DeckState.{DeckState}}
+use Rattle.deck_driver.specs.{RunStates.{over, opening}, Feeds.{run_state_from, refused_from, outcome_of, outcome, refused_at}, Audits.{told_to, told_from}}
 use Rattle.deck_driver.specs.declared.section.Section.TheVariants as section
-use Rattle.deck_driver.specs.declared.section.DeckState.{DeckState}
 use Rattle.deck_driver.specs.declared.section.DeckState.TheVariants as state
-use Rattle.deck_driver.specs.RunStates.{over, opening}
-use Rattle.deck_driver.specs.Feeds.{run_state_from, refused_from, outcome_of, outcome, refused_at}
-use Rattle.deck_driver.specs.Audits.{told_to, told_from}
 
 -- a deck that is refused where nothing was asked
 pub outcome_refused : (check : Bool) (slots jobs : ℕ) (m : Marks) (section : Section) (n : ℕ) (code : DeckError) → outcome_of check jobs m (refused_from slots section n code) ≡ refused_at n code

@@ -1,13 +1,8 @@
 -- A piece that ends with a line end, taken line by line.
 use Rattle.std.proofs.Common.{◌≡◌, ◌⊎◌, ℕ, ◌+◌, ◌≤◌, ◌<◌, Bool, true, false, ◌&&◌, not, List, [], ◌∷◌, ◌++◌, length, take, drop, refl, sym, ap, ◌∙◌, true≢false, inl, inr, arith, length-append}
-use Rattle.std.specs.List.{list_all}
-use Rattle.std.proofs.lemmas.Bool.{cases_lt}
-use Rattle.std.proofs.lemmas.List.{take_all, drop_all, drop-append-le}
-use Rattle.mon_text.specs.Characters.{is_line_feed}
-use Rattle.mon_text.specs.Feeding.{has_no_end}
-use Rattle.deck_driver.specs.declared.feed.DeckFeed.{DeckFeed}
-use Rattle.deck_driver.specs.Feeds.{EndsLine, is_reading}
-use Rattle.deck_driver.specs.inner.Pieces.{LeavesNothing}
+use Rattle.std.{specs.List.{list_all}, proofs.lemmas.Bool.{cases_lt}, proofs.lemmas.List.{take_all, drop_all, drop-append-le}}
+use Rattle.mon_text.specs.{Characters.{is_line_feed}, Feeding.{has_no_end}}
+use Rattle.deck_driver.specs.{declared.feed.DeckFeed.{DeckFeed}, Feeds.{EndsLine, is_reading}, inner.Pieces.{LeavesNothing}}
 
 has_end : (front : List ℕ) → has_no_end (front ++ 10 ∷ []) ≡ false
 has_end [] = refl

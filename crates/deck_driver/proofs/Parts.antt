@@ -1,25 +1,15 @@
 -- A part of a piece, up to its first line end.
 use Rattle.std.proofs.Common.{◌≡◌, ℕ, suc, ◌+◌, ◌<◌, ◌≤◌, ◌==◌, ◌&&◌, ◌||◌, Bool, true, false, cond, not, inl, inr, List, [], ◌∷◌, ◌++◌, length, take, drop, Some, None, refl, sym, ap, subst, ◌∙◌, arith, append_assoc, length-append, length-take, Result, Ok, Err, IfOk}
 use borrow.Author.Tests.{ne_eqb}
-use Rattle.std.specs.List.{position_or_len, list_any}
-use Rattle.std.specs.Str.Lines.{lines, strip_carriage_return}
-use Rattle.std.proofs.lemmas.Bool.Decides.{nat_tests}
-use Rattle.std.proofs.lemmas.List.{drop_all, take_all, take-append-drop}
-use Rattle.std.proofs.lemmas.List.Folds.{list_all-append}
-use Rattle.mon_text.specs.Feeding.{has_no_end, taken_of, Alike, Takes}
-use Rattle.mon_text.proofs.Cutting.{line_ends, last_line}
+use Rattle.std.specs.{List.{position_or_len, list_any}, Str.Lines.{lines, strip_carriage_return}}
+use Rattle.std.proofs.lemmas.{Bool.Decides.{nat_tests}, List.{drop_all, take_all, take-append-drop}, List.Folds.{list_all-append}}
+use Rattle.mon_text.{specs.Feeding.{has_no_end, taken_of, Alike, Takes}, proofs.Cutting.{line_ends, last_line}, specs.Characters.{is_line_feed}}
 use Rattle.deck_lines.specs.declared.deck_error.DeckError.TheVariants.{LineTooLong}
 use Rattle.scheduler.specs.Marks.{Marks}
-use Rattle.deck_driver.specs.declared.options.Counts.{Counts}
-use Rattle.deck_driver.specs.declared.options.Options.{Options}
-use Rattle.deck_driver.specs.declared.section.Section.{Section}
-use Rattle.deck_driver.specs.declared.section.DeckState.{DeckState}
+use Rattle.deck_driver.specs.declared.{options.Counts.{Counts}, options.Options.{Options}, section.Section.{Section}}
+use Rattle.deck_driver.specs.{declared.section.DeckState.{DeckState}, Feeds.{outcome, outcome_of, behind, refused_at}, inner.Counting.{lines_ended}}
+use Rattle.deck_driver.{specs.Audits.{told_to, told_from}, proofs.Following.{long_refused, outcome_refused, told_refused}}
 use Rattle.deck_driver.specs.declared.section.DeckState.TheVariants as state
-use Rattle.deck_driver.specs.Feeds.{outcome, outcome_of, behind, refused_at}
-use Rattle.deck_driver.specs.inner.Counting.{lines_ended}
-use Rattle.deck_driver.specs.Audits.{told_to, told_from}
-use Rattle.deck_driver.proofs.Following.{long_refused, outcome_refused, told_refused}
-use Rattle.mon_text.specs.Characters.{is_line_feed}
 
 -- where the first LF stands, a byte further on
 on : (x : ℕ) (xs : List ℕ) → not (is_line_feed x) ≡ true → position_or_len is_line_feed (x ∷ xs) ≡ suc (position_or_len is_line_feed xs)

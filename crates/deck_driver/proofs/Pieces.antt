@@ -1,25 +1,15 @@
 -- Pieces that a feed takes, one after the other.
 use Rattle.std.proofs.Common.{◌≡◌, ℕ, ◌+◌, List, [], ◌++◌, take, drop, Result, Err, refl, sym, subst, ap, ◌∙◌, append_assoc, append-nil}
-use Rattle.std.specs.declared.alloc.Global.{Global}
-use Rattle.std.specs.declared.rc.Rc.{Rc}
-use Rattle.std.specs.Str.Lines.{lines}
+use Rattle.std.specs.{declared.alloc.Global.{Global}, declared.rc.Rc.{Rc}, Str.Lines.{lines}}
 use Rattle.mon_catalogue.specs.Sets.{Sets}
 use Rattle.scheduler.specs.Marks.{Marks}
 use Rattle.deck_lines.specs.declared.deck_error.DeckError.{DeckError}
-use Rattle.deck_driver.specs.declared.fault.RunError.{RunError}
-use Rattle.deck_driver.specs.declared.fault.RunError.TheVariants.{DeckRefused, ReadFault, WriteFault, AuditFault, Memory}
-use Rattle.deck_driver.specs.declared.feed.DeckFeed.{DeckFeed}
-use Rattle.deck_driver.specs.declared.options.Counts.{Counts}
-use Rattle.deck_driver.specs.declared.section.DeckState.{DeckState}
+use Rattle.deck_driver.specs.declared.fault.RunError.{RunError, TheVariants.{DeckRefused, ReadFault, WriteFault, AuditFault, Memory}}
+use Rattle.deck_driver.specs.{declared.feed.DeckFeed.{DeckFeed}, declared.options.Counts.{Counts}, declared.section.DeckState.{DeckState}, Audits.{told_from}}
+use Rattle.deck_driver.specs.{RunStates.{nothing_counted}, Feeds.{Outcome, Good, Bad, outcome, behind, refused_at, OnAnswer, Begins}, inner.Pieces.{TookUpTo}}
+use Rattle.deck_driver.{specs.Abstraction.{told, audit_told, outcome_from, Took, Begun}, proofs.Parts.{rejoined}}
 use Rattle.deck_driver.specs.declared.section.DeckState.TheVariants as state
-use Rattle.deck_driver.specs.RunStates.{nothing_counted}
-use Rattle.deck_driver.specs.Feeds.{Outcome, Good, Bad, outcome, behind, refused_at, OnAnswer, Begins}
-use Rattle.mon_device.specs.Putting.{Standing, Puts}
-use Rattle.mon_device.proofs.Putting.{puts_nothing, puts_then}
-use Rattle.deck_driver.specs.Audits.{told_from}
-use Rattle.deck_driver.specs.Abstraction.{told, audit_told, outcome_from, Took, Begun}
-use Rattle.deck_driver.specs.inner.Pieces.{TookUpTo}
-use Rattle.deck_driver.proofs.Parts.{rejoined}
+use Rattle.mon_device.{specs.Putting.{Standing, Puts}, proofs.Putting.{puts_nothing, puts_then}}
 
 -- nothing was put out
 pub begun_same : (before after : List ℕ) (f : DeckFeed) (piece : List ℕ) (a : Standing) → after ≡ before → Begun before f piece after a a

@@ -1,36 +1,22 @@
 -- A line that was taken, from what it brings.
 use Rattle.std.proofs.Common.{◌≡◌, ◌⊎◌, ℕ, ◌+◌, false, Option, Some, None, List, [], ◌∷◌, ◌++◌, Result, Ok, Err, refl, sym, ap, subst, ◌∙◌, append-nil, inl, inr}
-use Rattle.std.specs.Prelude.{OnErr}
-use Rattle.std.specs.declared.alloc.Global.{Global}
-use Rattle.std.specs.declared.rc.Rc.{Rc}
+use Rattle.std.specs.{Prelude.{OnErr}, declared.alloc.Global.{Global}, declared.rc.Rc.{Rc}}
 use Rattle.mon_text.specs.declared.stop.Stop.TheVariants.{Refused}
 use Rattle.mon_catalogue.specs.Sets.{Sets}
-use Rattle.mon_device.specs.Putting.{Standing}
-use Rattle.mon_device.proofs.Putting.{puts_nothing}
-use Rattle.mon_monitor.specs.declared.monitor.Monitor.{Monitor}
-use Rattle.mon_monitor.specs.SystemStates.{SystemState}
-use Rattle.mon_monitor.specs.Abstraction.{system_of}
+use Rattle.mon_device.{specs.Putting.{Standing}, proofs.Putting.{puts_nothing}}
+use Rattle.mon_monitor.specs.{declared.monitor.Monitor.{Monitor}, SystemStates.{SystemState}, Abstraction.{system_of}}
 use Rattle.deck_lines.specs.declared.deck_error.DeckError.{DeckError}
 use Rattle.deck_syntax.specs.Sections.{Closed, stopped, stream_section}
-use Rattle.deck_reader.specs.declared.front_reader.Front.{Front}
-use Rattle.deck_reader.specs.declared.front_reader.FrontReader.{FrontReader}
-use Rattle.deck_reader.specs.declared.stream_reader.StreamReader.{StreamReader}
-use Rattle.deck_reader.specs.declared.stream_reader.StreamReader.TheVariants.{Cards}
-use Rattle.deck_reader.specs.declared.stream_reader.Event.{Event}
+use Rattle.deck_reader.specs.declared.{front_reader.Front.{Front}, front_reader.FrontReader.{FrontReader}, stream_reader.Event.{Event}}
+use Rattle.deck_reader.specs.declared.stream_reader.StreamReader.{StreamReader, TheVariants.{Cards}}
+use Rattle.deck_reader.specs.{Reading.{deck_ahead, deck_behind}, Events.{cards_ahead, event_then}}
 use Rattle.deck_reader.specs.declared.stream_reader.Event.TheVariants as event
-use Rattle.deck_reader.specs.Reading.{deck_ahead, deck_behind}
-use Rattle.deck_reader.specs.Events.{cards_ahead, event_then}
-use Rattle.deck_driver.specs.declared.options.Counts.{Counts}
-use Rattle.deck_driver.specs.declared.options.Options.{Options}
-use Rattle.deck_driver.specs.declared.section.Section.{Section}
-use Rattle.deck_driver.specs.declared.section.Section.TheVariants as section
-use Rattle.deck_driver.specs.declared.section.DeckState.{DeckState}
-use Rattle.deck_driver.specs.declared.section.DeckState.TheVariants as state
-use Rattle.deck_driver.specs.RunStates.{RunState, over, opening, nothing_counted, both_counted}
-use Rattle.deck_driver.specs.Printouts.{answer_to}
-use Rattle.deck_driver.specs.Feeds.{run_state_from, outcome_of, behind, is_reading, Good}
-use Rattle.deck_driver.specs.Audits.{told_to, told_from}
+use Rattle.deck_driver.specs.{declared.options.Counts.{Counts}, declared.options.Options.{Options}, declared.section.Section.{Section}, Printouts.{answer_to}}
+use Rattle.deck_driver.specs.{declared.section.DeckState.{DeckState}, RunStates.{RunState, over, opening, nothing_counted, both_counted}}
+use Rattle.deck_driver.specs.{Feeds.{run_state_from, outcome_of, behind, is_reading, Good}, Audits.{told_to, told_from}}
 use Rattle.deck_driver.specs.inner.Lines.{TookLine, LineBreaks, IsOver, GoesOn, ServeBreaks, Stopping, StopBreaks}
+use Rattle.deck_driver.specs.declared.section.Section.TheVariants as section
+use Rattle.deck_driver.specs.declared.section.DeckState.TheVariants as state
 
 -- nothing happened
 unmoved : (options : Options) (s s' : Section) (line out : List ℕ) (counts : Counts) (a : Standing)

@@ -1,31 +1,19 @@
 -- What a feed tells, step by step.
 use Rattle.std.proofs.Common.{◌≡◌, ℕ, ◌+◌, Bool, true, false, List, [], ◌∷◌, ◌++◌, length, drop, Some, None, Result, Ok, Err, refl, sym, ap, subst, ◌∙◌, append-nil, IfOk, ◌==◌, if◌then◌else◌}
 use Rattle.std.specs.Str.Lines.{lines}
-use Rattle.mon_text.specs.Feeding.{Takes}
-use Rattle.mon_text.specs.declared.stop.Stop.{Stop}
+use Rattle.mon_text.specs.{Feeding.{Takes}, declared.stop.Stop.{Stop}}
 use Rattle.mon_text.specs.declared.stop.Stop.TheVariants as stop
-use Rattle.deck_lines.specs.inner.Stops.{IfRefused}
+use Rattle.deck_lines.specs.{inner.Stops.{IfRefused}, declared.deck_error.DeckError.{DeckError}, declared.deck_error.DeckError.TheVariants.{Truncated}}
 use Rattle.mon_catalogue.specs.Sets.{Sets}
 use Rattle.scheduler.specs.Marks.{Marks}
-use Rattle.deck_lines.specs.declared.deck_error.DeckError.{DeckError}
-use Rattle.deck_lines.specs.declared.deck_error.DeckError.TheVariants.{Truncated}
-use Rattle.deck_driver.specs.declared.fault.RunError.{RunError}
-use Rattle.deck_driver.specs.declared.fault.RunError.TheVariants.{DeckRefused, Memory}
-use Rattle.deck_driver.specs.declared.options.Counts.{Counts}
-use Rattle.deck_driver.specs.declared.options.Options.{Options}
-use Rattle.deck_driver.specs.declared.section.Section.{Section}
-use Rattle.deck_driver.specs.declared.section.DeckState.{DeckState}
-use Rattle.deck_driver.specs.declared.section.DeckState.TheVariants as state
-use Rattle.deck_driver.specs.RunStates.{nothing_counted, both_counted}
+use Rattle.deck_driver.specs.declared.{fault.RunError.{RunError}, fault.RunError.TheVariants.{DeckRefused, Memory}, options.Counts.{Counts}}
+use Rattle.deck_driver.specs.declared.{options.Options.{Options}, section.Section.{Section}, section.DeckState.{DeckState}}
+use Rattle.deck_driver.specs.{RunStates.{nothing_counted, both_counted}, Printouts.{ReadsBack}, Abstraction.{last_lines}, Audits.{told_to, told_from}}
 use Rattle.deck_driver.specs.Feeds.{outcome, outcome_of, behind, refused_at, fault_at, stopped_by, IsReadBack, Outcome, Good, Bad, Begins}
-use Rattle.deck_driver.specs.Printouts.{ReadsBack}
-use Rattle.deck_driver.specs.Abstraction.{last_lines}
-use Rattle.mon_device.specs.Putting.{Standing, Puts}
-use Rattle.mon_device.proofs.Putting.{puts_nothing}
-use Rattle.deck_driver.specs.Audits.{told_to, told_from}
 use Rattle.deck_driver.specs.inner.Lines.{TookLine, LineBreaks, Ended, EndBegun}
-use Rattle.deck_driver.proofs.Commanding.{and_nothing}
-use Rattle.deck_driver.proofs.Following.{alike, alike_told, ends_here, outcome_refused, told_refused as tells_none}
+use Rattle.deck_driver.proofs.{Commanding.{and_nothing}, Following.{alike, alike_told, ends_here, outcome_refused, told_refused as tells_none}}
+use Rattle.deck_driver.specs.declared.section.DeckState.TheVariants as state
+use Rattle.mon_device.{specs.Putting.{Standing, Puts}, proofs.Putting.{puts_nothing}}
 
 module _ (options : Options) (s : DeckState) (n : ℕ) (out : List ℕ) (counts : Counts) (old piece : List ℕ) (used : ℕ) where
   -- no line ended

@@ -1,8 +1,6 @@
 -- Lines that are tested by blocks.
 use Rattle.std.proofs.Common.{◌≡◌, ◌∙◌, ap, sym, ℕ, ◌+◌, ◌-◌, refl, ◌≤◌, Bool, true, false, true≢false, ◌&&◌, List, length, take, drop, arith}
-use Rattle.std.specs.List.{list_all, slice_range}
-use Rattle.std.proofs.lemmas.List.{length-drop, take_all, take-append-drop}
-use Rattle.std.proofs.lemmas.List.Folds.{list_all-append}
+use Rattle.std.{specs.List.{list_all, slice_range}, proofs.lemmas.List.{length-drop, take_all, take-append-drop}, proofs.lemmas.List.Folds.{list_all-append}}
 use lib.Seq.{take-add}
 use Rattle.mon_text.specs.Characters.{is_printable}
 

@@ -1,10 +1,7 @@
 -- The first word of a text, and what stands behind it.
 use Rattle.std.proofs.Common.{◌≡◌, ℕ, suc, ◌+◌, ◌-◌, ◌<◌, ◌≤◌, ◌⊎◌, inl, inr, Bool, true, false, not, cond, if◌then◌else◌, filter, List, [], ◌∷◌, length, take, refl, sym, ap, subst, ◌∙◌, arith, length-take}
-use Rattle.std.specs.List.{slice_split, onto_first}
-use Rattle.std.proofs.lemmas.List.Splits.{slice_split-cons_no, slice_split-cons_yes}
-use Rattle.mon_text.specs.Beginnings.{without_leading}
-use Rattle.mon_text.specs.Characters.{is_blank}
-use Rattle.mon_text.specs.Lines.{is_nonempty, words}
+use Rattle.std.{specs.List.{slice_split, onto_first}, proofs.lemmas.List.Splits.{slice_split-cons_no, slice_split-cons_yes}}
+use Rattle.mon_text.specs.{Beginnings.{without_leading}, Characters.{is_blank}, Lines.{is_nonempty, words}}
 
 abbrev from_blank : List ℕ → List ℕ
 from_blank text = without_leading (λ c. not (is_blank c)) text

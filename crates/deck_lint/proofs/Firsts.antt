@@ -1,23 +1,13 @@
 -- The first reason of all is the one for which a load refuses a job.
 use Rattle.std.proofs.Common.{◌≡◌, ℕ, ◌+◌, Bool, true, false, List, [], ◌∷◌, ◌++◌, Option, Some, None, Result, Ok, Err, refl, ap, ◌∙◌, append_assoc}
-use Rattle.std.specs.Prelude.{option_map, replicate, slice_set}
-use Rattle.std.specs.Option.{option_or}
-use Rattle.sno_cards.specs.declared.refusal.SyntaxError.{SyntaxError}
-use Rattle.sno_cards.specs.Programs.{ProgramText}
-use Rattle.sno_cards.specs.Statements.{statements_of}
-use Rattle.sno_cards.specs.Texts.{Placed}
-use Rattle.sno_syntax.specs.Labels.{LabelList}
-use Rattle.sno_syntax.specs.Refusals.{label_of, with_label, statement_refusal, statements_refusal, start_in, end_refusal, syntax_refusal}
-use Rattle.mon_access.specs.declared.account.Account.{Account}
-use Rattle.mon_access.specs.Accounts.{find_account}
-use Rattle.unit_ties.specs.declared.unit_error.UnitError.{UnitError}
-use Rattle.deck_syntax.specs.declared.job_deck.UnitCard.{UnitCard}
-use Rattle.deck_syntax.specs.declared.job_deck.JobDeck.{JobDeck}
-use Rattle.load_refusal.specs.declared.load_error.LoadError.{LoadError}
-use Rattle.load_refusal.specs.declared.load_error.LoadError.TheVariants.{NoAccount, Cards, Syntax}
-use Rattle.unit_ties.specs.Ties.{refused_by}
-use Rattle.load_refusal.specs.Loads.{program_refusal, missing, job_refusal}
-use Rattle.load_refusal.specs.Loads.{cards_refused as first_tie_refused}
+use Rattle.std.specs.{Prelude.{option_map, replicate, slice_set}, Option.{option_or}}
+use Rattle.sno_cards.specs.{declared.refusal.SyntaxError.{SyntaxError}, Programs.{ProgramText}, Statements.{statements_of}, Texts.{Placed}}
+use Rattle.sno_syntax.specs.{Labels.{LabelList}, Refusals.{label_of, with_label, statement_refusal, statements_refusal, start_in, end_refusal, syntax_refusal}}
+use Rattle.mon_access.specs.{declared.account.Account.{Account}, Accounts.{find_account}}
+use Rattle.unit_ties.specs.{declared.unit_error.UnitError.{UnitError}, Ties.{refused_by}}
+use Rattle.deck_syntax.specs.declared.job_deck.{UnitCard.{UnitCard}, JobDeck.{JobDeck}}
+use Rattle.load_refusal.specs.declared.load_error.LoadError.{LoadError, TheVariants.{NoAccount, Cards, Syntax}}
+use Rattle.load_refusal.specs.Loads.{program_refusal, missing, job_refusal, cards_refused as first_tie_refused}
 use Rattle.program_listing.specs.Refused.{listed, syntax_listed, statements_refused, end_refused, cards_refused, program_refused}
 use Rattle.deck_lint.specs.Refused.{first_of, tied_after, tie_listed, ties_refused, deck_refused}
 

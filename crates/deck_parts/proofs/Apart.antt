@@ -1,10 +1,8 @@
 -- A deck, taken apart piece by piece.
 use Rattle.std.proofs.Common.{◌≡◌, ℕ, List, [], ◌++◌, take, drop, sym, ap, ◌∙◌, subst}
-use Rattle.std.specs.Prelude.{codes}
-use Rattle.std.proofs.lemmas.List.{take-append-drop}
+use Rattle.std.{specs.Prelude.{codes}, proofs.lemmas.List.{take-append-drop}}
 use Rattle.preflight.specs.declared.submission.Submission.{Submission}
-use Rattle.deck_parts.specs.declared.deck.SetText.{SetText}
-use Rattle.deck_parts.specs.declared.deck.Whole.{Whole}
+use Rattle.deck_parts.specs.declared.deck.{SetText.{SetText}, Whole.{Whole}}
 use Rattle.deck_parts.specs.Wholes.{IsEnded, sets_text, texts_text, IsSettled, IsStream, IsTakenApart}
 
 -- up to this place

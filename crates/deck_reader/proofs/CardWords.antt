@@ -1,23 +1,13 @@
 -- A card that lists records, by its words.
 use Rattle.std.proofs.Common.{◌≡◌, ℕ, suc, ◌-◌, ◌≤◌, nat_lt, Bool, true, false, not, ◌&&◌, if◌then◌else◌, filter, List, [], ◌∷◌, ◌++◌, length, take, drop, refl, sym, ap, subst, ◌∙◌, arith, length-append, Some, None, Option}
-use Rattle.std.specs.Prelude.{codes}
-use Rattle.std.specs.List.{list_all, slice_split, onto_first}
-use Rattle.std.specs.Option.{option_or}
-use Rattle.std.proofs.lemmas.Bool.Decides.{nat_tests}
-use Rattle.std.proofs.lemmas.List.{take_all}
-use Rattle.std.proofs.lemmas.List.Splits.{slice_split-cons_no, slice_split-cons_yes}
-use Rattle.std.proofs.lemmas.List.Folds.{list_all-append}
-use Rattle.mon_text.specs.Beginnings.{without_leading}
-use Rattle.mon_text.specs.Characters.{is_blank, is_printable}
-use Rattle.mon_text.specs.Lines.{is_line, is_nonempty, words}
+use Rattle.std.specs.{Prelude.{codes}, List.{list_all, slice_split, onto_first}, Option.{option_or}}
+use Rattle.std.proofs.lemmas.{Bool.Decides.{nat_tests}, List.{take_all}, List.Splits.{slice_split-cons_no, slice_split-cons_yes}, List.Folds.{list_all-append}}
+use Rattle.mon_text.specs.{Beginnings.{without_leading}, Characters.{is_blank, is_printable}, Lines.{is_line, is_nonempty, words}}
 use Rattle.mon_text.specs.Names.{is_name, is_name_character}
 use Rattle.deck_lines.specs.declared.command.Command.TheVariants as command
-use Rattle.deck_lines.specs.declared.deck_error.DeckError.{DeckError}
-use Rattle.deck_lines.specs.declared.deck_error.DeckError.TheVariants.{BadName, BadCharacter, LineTooLong}
-use Rattle.deck_syntax.specs.declared.request.Request.TheVariants.{Asks}
-use Rattle.deck_lines.specs.Cards.{card_among}
-use Rattle.deck_lines.specs.Refusing.{unless, line_refusal}
-use Rattle.deck_syntax.specs.Requests.{stream_card_refusal, stream_refusal, card_request, request_on}
+use Rattle.deck_lines.specs.declared.deck_error.DeckError.{DeckError, TheVariants.{BadName, BadCharacter, LineTooLong}}
+use Rattle.deck_lines.specs.{Cards.{card_among}, Refusing.{unless, line_refusal}}
+use Rattle.deck_syntax.specs.{declared.request.Request.TheVariants.{Asks}, Requests.{stream_card_refusal, stream_refusal, card_request, request_on}}
 use Rattle.deck_reader.specs.inner.Listed.{Lists}
 
 abbrev from_blank : List ℕ → List ℕ

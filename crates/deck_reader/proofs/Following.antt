@@ -1,32 +1,21 @@
 -- What a line of the stream makes of the cards, by the event that it brings; and a record what of the front.
 use Rattle.std.proofs.Common.{◌≡◌, ℕ, ◌+◌, Bool, true, false, List, ◌∷◌, ◌&&◌, Some, None, Result, Ok, Err, is_ok, refl, sym, ap, ◌∙◌, if◌then◌else◌}
-use Rattle.std.specs.Prelude.{IfOk, IfErr, OnOk}
-use Rattle.std.specs.Option.{option_or}
-use Rattle.mon_text.specs.declared.stop.Stop.{Stop}
-use Rattle.mon_text.specs.declared.stop.Stop.TheVariants.{Refused, Memory}
-use Rattle.deck_lines.specs.inner.Stops.{Answers, IfRefused}
-use Rattle.deck_lines.specs.declared.deck_error.DeckError.{DeckError}
+use Rattle.std.specs.{Prelude.{IfOk, IfErr, OnOk}, Option.{option_or}}
+use Rattle.mon_text.specs.{declared.stop.Stop.{Stop}, declared.stop.Stop.TheVariants.{Refused, Memory}, Lines.{words}}
+use Rattle.deck_lines.specs.{inner.Stops.{Answers, IfRefused}, declared.deck_error.DeckError.{DeckError}, declared.card.Card.TheVariants.{EndJob}}
+use Rattle.deck_lines.specs.{Cards.{card_among, is_card}, Refusing.{is_dollar_line, line_refusal}}
 use Rattle.deck_lines.specs.declared.command.Command.TheVariants as commands
-use Rattle.mon_text.specs.Lines.{words}
-use Rattle.deck_lines.specs.declared.card.Card.TheVariants.{EndJob}
-use Rattle.deck_lines.specs.Cards.{card_among, is_card}
-use Rattle.deck_lines.specs.Refusing.{is_dollar_line, line_refusal}
-use Rattle.deck_syntax.specs.declared.request.Request.{Request}
+use Rattle.deck_syntax.specs.{declared.request.Request.{Request}, Decks.{Cards, Commands, Enters, Deck}, declared.job.OpenJob.{OpenJob}}
+use Rattle.deck_syntax.specs.{declared.list.OpenList.{OpenList}, Jobs.{is_job_card_line, job_line_refusal, ends_job, after_job_line}}
+use Rattle.deck_syntax.{specs.Requests.{request_on, set_acl_of, with_line, list_line_refusal, stream_refusal}, proofs.Shorthand.{goes_on, deck_goes_on}}
 use Rattle.deck_syntax.specs.declared.request.Request.TheVariants as request
-use Rattle.deck_syntax.specs.Decks.{Cards, Commands, Enters, Deck}
-use Rattle.deck_syntax.specs.declared.job.OpenJob.{OpenJob}
-use Rattle.deck_syntax.specs.declared.list.OpenList.{OpenList}
-use Rattle.deck_syntax.specs.Jobs.{is_job_card_line, job_line_refusal, ends_job, after_job_line}
-use Rattle.deck_syntax.specs.Requests.{request_on, set_acl_of, with_line, list_line_refusal, stream_refusal}
 use Rattle.deck_syntax.specs.Sections.{Open, Closed, InList, InJob, requested, asked_then, stream_section, refused_on_line, catalogue_section, catalogue_refusal, ends_catalogue, sets_of}
-use Rattle.deck_syntax.proofs.Shorthand.{goes_on, deck_goes_on}
 use Rattle.mon_access.specs.declared.account.Account.{Account}
 use Rattle.mon_catalogue.specs.Progress.{Progress, step}
-use Rattle.deck_reader.specs.declared.stream_reader.Event.{Event}
-use Rattle.deck_reader.specs.declared.stream_reader.Event.TheVariants as event
-use Rattle.deck_reader.specs.declared.stream_reader.StreamReader.{StreamReader}
-use Rattle.deck_reader.specs.declared.stream_reader.StreamReader.TheVariants as reader
+use Rattle.deck_reader.specs.declared.stream_reader.{Event.{Event}, StreamReader.{StreamReader}}
 use Rattle.deck_reader.specs.Events.{open_in, refusal_in, event_in, event_of, opened_by, open_after, cards_ahead, event_then}
+use Rattle.deck_reader.specs.declared.stream_reader.Event.TheVariants as event
+use Rattle.deck_reader.specs.declared.stream_reader.StreamReader.TheVariants as reader
 
 -- what a request brings, and what is open behind it, is all that the lines behind it are read by
 by_request : (r : Request) (rest : Open → Cards) → requested r rest ≡ event_then (event_of r) (rest (opened_by r))

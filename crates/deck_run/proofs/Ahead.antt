@@ -1,33 +1,20 @@
 -- What was written ahead: what a sink has taken, text by text, and what a writer holds then.
 use Rattle.std.proofs.Common.{◌≡◌, ◌⊎◌, inl, inr, ℕ, Bool, true, false, List, [], ◌∷◌, ◌++◌, take, drop, Option, Result, Ok, Err, IfOk, IfErr, refl, sym, ap, subst, ◌∙◌, arith, append_assoc, append-nil, if◌then◌else◌}
-use Rattle.std.proofs.lemmas.List.{take-append-drop}
-use Rattle.std.specs.Str.Lines.{lines}
+use Rattle.std.{proofs.lemmas.List.{take-append-drop}, specs.Str.Lines.{lines}}
 use Rattle.mon_text.specs.Feeding.{has_no_end}
 use Rattle.mon_catalogue.specs.Sets.{Sets}
 use Rattle.scheduler.specs.Marks.{Marks}
-use Rattle.mon_device.specs.Devices.{holding, Gives}
-use Rattle.mon_device.specs.Putting.{Standing, Puts}
-use Rattle.mon_device.proofs.Putting.{puts_same, puts_then}
-use Rattle.mon_device.proofs.Holding.{holding-append, holding-nothing}
+use Rattle.mon_device.specs.{Devices.{holding, Gives}, Putting.{Standing, Puts}}
+use Rattle.mon_device.proofs.{Putting.{puts_same, puts_then}, Holding.{holding-append, holding-nothing}}
 use Rattle.deck_lines.specs.declared.deck_error.DeckError.{DeckError}
 use Rattle.deck_syntax.specs.Sections.{deck_of}
-use Rattle.deck_driver.specs.declared.feed.DeckFeed.{DeckFeed}
-use Rattle.deck_driver.specs.declared.fault.RunError.{RunError}
-use Rattle.deck_driver.specs.declared.fault.RunError.TheVariants.{DeckRefused, ReadFault, WriteFault, AuditFault, Memory}
-use Rattle.deck_driver.specs.declared.options.Counts.{Counts}
-use Rattle.deck_driver.specs.declared.options.Options.{Options}
-use Rattle.deck_driver.specs.RunStates.{opening}
-use Rattle.deck_driver.specs.Printouts.{answer_to, output_of, ReadsBack}
-use Rattle.deck_driver.specs.Feeds.{Outcome, Good, Bad, IsOwn, IsReadBack}
-use Rattle.deck_driver.specs.Abstraction.{told, audit_told, Took}
+use Rattle.deck_driver.specs.{declared.feed.DeckFeed.{DeckFeed}, declared.fault.RunError.{RunError}, declared.options.Counts.{Counts}, RunStates.{opening}}
+use Rattle.deck_driver.specs.declared.{fault.RunError.TheVariants.{DeckRefused, ReadFault, WriteFault, AuditFault, Memory}, options.Options.{Options}}
+use Rattle.deck_driver.specs.{Printouts.{answer_to, output_of, ReadsBack}, Feeds.{Outcome, Good, Bad, IsOwn, IsReadBack}, Abstraction.{told, audit_told, Took}}
 use Rattle.deck_driver.specs.Audits.{told_to, audit_for}
-use Rattle.deck_run.specs.Runs.{HoldsBeginning, whole_lines}
-use Rattle.deck_run.specs.Audited.{is_broken, Audited, end_told, IsSettled, HasAllTaken, IsWrittenAhead}
-use Rattle.deck_run.specs.inner.Ahead.{IsLong, Ahead, IsAhead, EndsAhead}
-use Rattle.deck_run.specs.inner.Writing.{holds, HasGrown, Serves, Runs}
-use Rattle.deck_run.specs.Runs.{run_state_of}
-use Rattle.deck_run.proofs.Holdings.{Far, held_begins, grown_held, not_grown, serves_written}
-use Rattle.deck_run.proofs.Running.{Opens, Tells}
+use Rattle.deck_run.specs.{Runs.{HoldsBeginning, whole_lines, run_state_of}, Audited.{is_broken, Audited, end_told, IsSettled, HasAllTaken, IsWrittenAhead}}
+use Rattle.deck_run.specs.inner.{Ahead.{IsLong, Ahead, IsAhead, EndsAhead}, Writing.{holds, HasGrown, Serves, Runs}}
+use Rattle.deck_run.proofs.{Holdings.{Far, held_begins, grown_held, not_grown, serves_written}, Running.{Opens, Tells}}
 use Rattle.deck_run.proofs.Due.{one_line_more, untold, answer_same, told_same, long_bytes}
 
 -- the audit is that of the history

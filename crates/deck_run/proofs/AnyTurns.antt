@@ -1,42 +1,22 @@
 -- Decks that differ in the turns behind their other cards.
 use Rattle.std.proofs.Common.{◌≡◌, ℕ, suc, Bool, true, false, List, [], ◌∷◌, ◌++◌, length, map, flat_map, None, inl, inr, refl, sym, ap, subst, ◌∙◌, arith, if◌then◌else◌, append_assoc}
-use Rattle.std.specs.List.{AllByRecursion}
-use Rattle.std.specs.Str.Lines.{lines}
-use Rattle.std.proofs.lemmas.List.Concat.{flat_map-append}
-use Rattle.std.proofs.lemmas.List.Sorted.{IsPermutation-map}
-use Rattle.std.specs.Prelude.{drop, replicate}
+use Rattle.std.specs.{List.{AllByRecursion}, Str.Lines.{lines}, Prelude.{drop, replicate}}
+use Rattle.std.proofs.lemmas.List.{Concat.{flat_map-append}, Sorted.{IsPermutation-map}}
 use Rattle.mon_catalogue.specs.Sets.{Sets, NamesDiffer}
 use Rattle.mon_access.specs.declared.account.Account.{Account}
-use Rattle.job_end.specs.declared.job_end.JobEnd.{JobEnd}
-use Rattle.job_end.specs.Printouts.{printout}
-use Rattle.scheduler.specs.States.{SchedulerState, job_in}
-use Rattle.scheduler.specs.Turns.{ends_by, turns}
+use Rattle.job_end.specs.{declared.job_end.JobEnd.{JobEnd}, Printouts.{printout}}
+use Rattle.scheduler.specs.{States.{SchedulerState, job_in}, Turns.{ends_by, turns}, inner.Parts.{ends_then}}
 use Rattle.scheduler.specs.Marks.{Marks, mark_of, turn_as, Past, nothing, until, never, marked, rounds, turns_left, is_done, has_free_slot}
-use Rattle.scheduler.specs.inner.Parts.{ends_then}
 use Rattle.scheduler.proofs.Past.{either_way, until_stops, until_goes, until_append, unmarked}
-use Rattle.mon_monitor.specs.SystemStates.{SystemState, with_scheduler, first_system}
-use Rattle.mon_monitor.specs.Events.{Event, Serve, Load, Give, Drain}
-use Rattle.mon_monitor.specs.Printouts.{Printout, OfJob, printout_text, printouts_text}
-use Rattle.mon_monitor.specs.Played.{Played, of_turns, then_played, happened, played}
-use Rattle.mon_monitor.proofs.Parts.{and_played}
-use Rattle.mon_monitor.specs.Laws.{CardByCard, DrainEmpties}
-use Rattle.mon_monitor.proofs.Playing.{ends_text}
-use Rattle.mon_monitor.specs.Isolation.{CommandsAgree}
-use Rattle.mon_monitor.specs.Schedules.{EndsAsAlone, AllEnded, AnySchedule}
-use Rattle.deck_syntax.specs.Decks.{Asked, Commands, Enters, Gives, Drains, Ending, Stopped}
-use Rattle.deck_syntax.specs.Laws.{ReadingSpells}
-use Rattle.deck_syntax.specs.Sections.{deck_of}
-use Rattle.deck_driver.specs.declared.options.Options.{Options}
-use Rattle.deck_driver.specs.RunStates.{RunState, events_of, events_in, played_run_state}
+use Rattle.mon_monitor.specs.{SystemStates.{SystemState, with_scheduler, first_system}, Events.{Event, Serve, Load, Give, Drain}, Isolation.{CommandsAgree}}
+use Rattle.mon_monitor.specs.{Printouts.{Printout, OfJob, printout_text, printouts_text}, Played.{Played, of_turns, then_played, happened, played}}
+use Rattle.mon_monitor.specs.{Laws.{CardByCard, DrainEmpties}, Schedules.{EndsAsAlone, AllEnded, AnySchedule}}
+use Rattle.mon_monitor.proofs.{Parts.{and_played}, Playing.{ends_text}, Shorthand.{of_ends}}
+use Rattle.deck_syntax.specs.{Decks.{Asked, Commands, Enters, Gives, Drains, Ending, Stopped}, Laws.{ReadingSpells}, Sections.{deck_of}}
+use Rattle.deck_driver.specs.{declared.options.Options.{Options}, RunStates.{RunState, events_of, events_in, played_run_state}, Printouts.{closing, output_of}}
 use Rattle.deck_driver.proofs.Verdicts.{at_end}
-use Rattle.deck_driver.specs.Printouts.{closing, output_of}
-use Rattle.deck_run.specs.Runs.{run_state_of, catalogue_after}
-use Rattle.deck_run.specs.Laws.{done, jobs_in}
-use Rattle.deck_run.specs.Schedules.{GivesTurns, EndsInTurns, done_before, AnyTurns}
-use Rattle.deck_run.proofs.Ordered.{output_with, is_run, events_both}
-use Rattle.deck_run.proofs.Rearranged.{same_ends}
-use Rattle.deck_run.proofs.Staying.{played_names}
-use Rattle.mon_monitor.proofs.Shorthand.{of_ends}
+use Rattle.deck_run.specs.{Runs.{run_state_of, catalogue_after}, Laws.{done, jobs_in}, Schedules.{GivesTurns, EndsInTurns, done_before, AnyTurns}}
+use Rattle.deck_run.proofs.{Ordered.{output_with, is_run, events_both}, Rearranged.{same_ends}, Staying.{played_names}}
 
 -- TURNS ALONE ARE TURNS OF THE SLOTS IN SOME ORDER
 

@@ -1,37 +1,21 @@
 -- Jobs that name no data set in common are tied to none in common.
 use Rattle.std.proofs.Common.{◌≡◌, ◌==◌, ℕ, zero, suc, Bool, true, false, List, [], ◌∷◌, length, map, Option, Some, None, ◌⊎◌, inl, inr, sym, ap, subst, ◌∙◌, slice_get, slice_set, if◌then◌else◌}
-use Rattle.std.specs.List.{AllByRecursion, range_with_len}
-use Rattle.std.specs.Prelude.{replicate}
+use Rattle.std.specs.{List.{AllByRecursion, range_with_len}, Prelude.{replicate}}
 use Rattle.sno_cards.specs.Statements.{statements_of}
 use Rattle.sno_syntax.specs.Programs.{Program}
-use Rattle.mon_access.specs.declared.account.Account.{Account}
-use Rattle.mon_access.specs.Accounts.{find_account}
-use Rattle.mon_unit.specs.declared.tie.Target.{Target}
-use Rattle.mon_unit.specs.declared.tie.Target.TheVariants.{Untied, Data, Spool, Set}
-use Rattle.mon_unit.specs.declared.tie.Tie.{Tie}
-use Rattle.mon_unit.specs.State.{UnitState}
-use Rattle.mon_unit.specs.Tying.{tied_to}
-use Rattle.mon_unit.proofs.Changed.{first_tie}
-use Rattle.mon_unit.specs.Laws.{targets, TiedTo}
-use Rattle.deck_syntax.specs.declared.job_deck.UnitCard.{UnitCard}
-use Rattle.deck_syntax.specs.declared.job_deck.JobDeck.{JobDeck}
-use Rattle.load_refusal.specs.declared.load_error.LoadError.{LoadError}
-use Rattle.scheduler.specs.States.{SlotState, SchedulerState, scheduler, seat_at, first_free, job_in}
-use Rattle.scheduler.specs.Loads.{first_units, tied_by, with_ties, program_in, load_refusal, slot_in, loaded_by, job_loaded}
-use Rattle.scheduler.specs.inner.Parts.{slot_by}
-use Rattle.scheduler.specs.Marks.{Marks, never, rounds, turns_left, is_done, has_free_slot, room}
-use Rattle.mon_monitor.specs.SystemStates.{SystemState}
-use Rattle.mon_monitor.specs.Events.{Serve, Load, Give, Drain}
-use Rattle.mon_monitor.specs.Played.{happened, played}
-use Rattle.scheduler.specs.Ties.{Independent}
-use Rattle.deck_syntax.specs.declared.job.OpenJob.{OpenJob}
+use Rattle.mon_access.specs.{declared.account.Account.{Account}, Accounts.{find_account}}
+use Rattle.mon_unit.specs.declared.tie.{Target.{Target}, Target.TheVariants.{Untied, Data, Spool, Set}, Tie.{Tie}}
+use Rattle.mon_unit.{specs.State.{UnitState}, specs.Tying.{tied_to}, proofs.Changed.{first_tie}, specs.Laws.{targets, TiedTo}}
+use Rattle.deck_syntax.specs.{declared.job_deck.UnitCard.{UnitCard}, declared.job_deck.JobDeck.{JobDeck}, declared.job.OpenJob.{OpenJob}, Jobs.{job_deck_of}}
 use Rattle.deck_syntax.specs.Decks.{Asked, Commands, Enters, Gives, Drains}
-use Rattle.deck_syntax.specs.Jobs.{job_deck_of}
+use Rattle.load_refusal.specs.declared.load_error.LoadError.{LoadError}
+use Rattle.scheduler.specs.{States.{SlotState, SchedulerState, scheduler, seat_at, first_free, job_in}, inner.Parts.{slot_by}, Ties.{Independent}}
+use Rattle.scheduler.specs.Loads.{first_units, tied_by, with_ties, program_in, load_refusal, slot_in, loaded_by, job_loaded}
+use Rattle.scheduler.specs.Marks.{Marks, never, rounds, turns_left, is_done, has_free_slot, room}
+use Rattle.mon_monitor.specs.{SystemStates.{SystemState}, Events.{Serve, Load, Give, Drain}, Played.{happened, played}}
 use Rattle.deck_driver.specs.RunStates.{events_of}
-use Rattle.deck_run.specs.Runs.{run_state_of}
-use Rattle.deck_run.specs.Schedules.{IsNamedOn, SharesNone, NameApart, ApartByTheirCards}
-use Rattle.deck_run.proofs.Isolated.{no_job_at_first}
-use Rattle.deck_run.proofs.Staying.{Follows, seat_then, until_follows}
+use Rattle.deck_run.specs.{Runs.{run_state_of}, Schedules.{IsNamedOn, SharesNone, NameApart, ApartByTheirCards}}
+use Rattle.deck_run.proofs.{Isolated.{no_job_at_first}, Staying.{Follows, seat_then, until_follows}}
 
 -- WHAT A NEW JOB IS TIED TO
 

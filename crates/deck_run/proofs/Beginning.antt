@@ -1,37 +1,19 @@
 -- Decks that are refused, cut, or made of what was written.
 use Rattle.std.proofs.Common.{◌≡◌, ℕ, ◌⊎◌, inl, inr, List, [], ◌∷◌, ◌++◌, sym, ap, subst, ◌∙◌, arith, append_assoc, append-nil}
-use Rattle.std.specs.Prelude.{codes}
-use Rattle.std.specs.Str.Lines.{lines}
-use Rattle.std.proofs.lemmas.Grind.{flat_map-append}
+use Rattle.std.{specs.Prelude.{codes}, specs.Str.Lines.{lines}, proofs.lemmas.Grind.{flat_map-append}}
 use Rattle.mon_access.specs.declared.account.Account.{Account}
-use Rattle.mon_catalogue.specs.Sets.{Sets}
-use Rattle.mon_catalogue.specs.declared.version.Version.TheVariants.{Two}
-use Rattle.mon_catalogue.specs.Text.{text_of, catalogue_lines, catalogue_text}
-use Rattle.mon_catalogue.proofs.Whole.{reading_spells}
-use Rattle.mon_catalogue.proofs.Back.{text_is_stored}
+use Rattle.mon_catalogue.specs.{Sets.{Sets}, declared.version.Version.TheVariants.{Two}, Text.{text_of, catalogue_lines, catalogue_text}}
+use Rattle.mon_catalogue.proofs.{Whole.{reading_spells}, Back.{text_is_stored}}
 use Rattle.scheduler.specs.Marks.{Marks}
-use Rattle.mon_monitor.specs.SystemStates.{SystemState, first_system}
-use Rattle.mon_monitor.specs.Printouts.{printouts_text}
-use Rattle.mon_monitor.specs.Events.{Event}
-use Rattle.mon_monitor.specs.Played.{played}
-use Rattle.mon_monitor.specs.Laws.{CardByCard}
+use Rattle.mon_monitor.specs.{SystemStates.{SystemState, first_system}, Printouts.{printouts_text}, Events.{Event}, Played.{played}, Laws.{CardByCard}}
 use Rattle.deck_lines.specs.declared.deck_error.DeckError.{DeckError}
-use Rattle.deck_syntax.specs.Decks.{Deck, Asked, Ending, Stopped, Refused}
-use Rattle.deck_syntax.specs.Laws.{deck_lines, deck_over}
-use Rattle.deck_syntax.specs.Sections.{deck_of}
-use Rattle.deck_syntax.specs.Spelling.{IsDeck}
-use Rattle.deck_syntax.proofs.Closing.{good_beginnings}
-use Rattle.deck_syntax.proofs.ComingBack.{comes_back}
-use Rattle.deck_driver.specs.RunStates.{opening, events_of, played_run_state}
-use Rattle.deck_driver.proofs.Verdicts.{at_end}
-use Rattle.mon_device.specs.Putting.{Standing}
-use Rattle.mon_device.proofs.Putting.{puts_then}
-use Rattle.deck_driver.specs.Abstraction.{told, audit_told, Took}
-use Rattle.deck_driver.specs.declared.feed.DeckFeed.{DeckFeed}
-use Rattle.deck_driver.specs.Printouts.{closing, output_of_run_state}
-use Rattle.deck_run.specs.Runs.{run_state_of}
+use Rattle.deck_syntax.specs.{Decks.{Deck, Asked, Ending, Stopped, Refused}, Laws.{deck_lines, deck_over}, Sections.{deck_of}, Spelling.{IsDeck}}
+use Rattle.deck_syntax.proofs.{Closing.{good_beginnings}, ComingBack.{comes_back}}
+use Rattle.deck_driver.{specs.RunStates.{opening, events_of, played_run_state}, proofs.Verdicts.{at_end}, specs.Abstraction.{told, audit_told, Took}}
+use Rattle.deck_driver.specs.{declared.feed.DeckFeed.{DeckFeed}, Printouts.{closing, output_of_run_state}}
+use Rattle.mon_device.{specs.Putting.{Standing}, proofs.Putting.{puts_then}}
+use Rattle.deck_run.{specs.Runs.{run_state_of}, proofs.Ordered.{output_with, in_two, is_run}}
 use Rattle.deck_run.specs.Laws.{done, jobs_in, rest_of_output, RefusedPrintsAsGood, joined, PiecesAreJoined, HoweverCut, ReadBackIsStored, deck_around, CataloguesRunAgain}
-use Rattle.deck_run.proofs.Ordered.{output_with, in_two, is_run}
 
 module _ (card_by_card : CardByCard) (slots : ℕ) (m : Marks) (bad deck : Deck) (last : List Asked) (n : ℕ) (code : DeckError) (accounts : deck.accounts ≡ bad.accounts)
     (asked : deck.cards.asked ≡ bad.cards.asked ++ last) (same : (bad.cards.asked ≡ []) ⊎ (deck.catalogue ≡ bad.catalogue)) (refused : bad.cards.ending ≡ Refused n code)

@@ -1,14 +1,10 @@
 -- The line that is due, as line ends are counted.
 use Rattle.std.proofs.Common.{◌≡◌, ◌≤◌, ℕ, suc, ◌+◌, ◌-◌, ◌&&◌, Bool, true, false, not, List, [], ◌∷◌, ◌++◌, length, get_or, take, drop, if◌then◌else◌, refl, sym, ap, ◌∙◌, arith}
 use Rattle.std.proofs.lemmas.List.{take-append-drop}
-use Rattle.mon_text.specs.Characters.{is_line_feed}
-use Rattle.mon_text.specs.Feeding.{has_no_end}
-use Rattle.deck_driver.specs.declared.section.DeckState.{DeckState}
-use Rattle.deck_driver.specs.Feeds.{is_reading, used_by}
-use Rattle.deck_driver.specs.inner.Counting.{lines_ended}
+use Rattle.mon_text.specs.{Characters.{is_line_feed}, Feeding.{has_no_end}}
+use Rattle.deck_driver.specs.{declared.section.DeckState.{DeckState}, Feeds.{is_reading, used_by}, inner.Counting.{lines_ended}}
 use Rattle.deck_driver.proofs.Parts.{Part, Open, Ended, parted_at, none_ended, ended_further}
-use Rattle.deck_run.specs.inner.Ending.{ended_by}
-use Rattle.deck_run.proofs.Holdings.{taken_where_read}
+use Rattle.deck_run.{specs.inner.Ending.{ended_by}, proofs.Holdings.{taken_where_read}}
 
 -- all but the last byte says nothing
 last_alone : (x y : ℕ) (ys : List ℕ) → ended_by (x ∷ y ∷ ys) ≡ ended_by (y ∷ ys)

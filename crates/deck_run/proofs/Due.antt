@@ -2,57 +2,31 @@
 -- so what comes of such a line behind bytes that were read is what is due for their whole lines.
 use Rattle.std.proofs.Common.{◌≡◌, ℕ, zero, suc, ◌+◌, ◌<◌, ◌==◌, ◌&&◌, Bool, true, false, cond, if◌then◌else◌, not, List, [], ◌∷◌, ◌++◌, length, map, Option, Some, None, ◌⊎◌, inl, inr, take, drop, refl, sym, ap, ◌∙◌, arith, append_assoc, append-nil, length-append}
 use borrow.Author.Tests.{ne_eqb}
-use Rattle.std.specs.List.{slice_split, onto_first}
-use Rattle.std.specs.Str.Lines.{lines, lines_of_parts, strip_carriage_return}
-use Rattle.std.proofs.lemmas.List.Splits.{slice_split-cons_no, slice_split-cons_yes}
-use Rattle.std.proofs.lemmas.List.{length-map, take-append-drop}
-use Rattle.std.proofs.lemmas.List.Folds.{list_all-append}
-use Rattle.mon_text.specs.Lines.{is_blank_line, words}
-use Rattle.mon_text.specs.Feeding.{has_no_end}
-use Rattle.mon_text.proofs.Cutting.{last_line}
+use Rattle.std.specs.{List.{slice_split, onto_first}, Str.Lines.{lines, lines_of_parts, strip_carriage_return}, Option.{option_or}}
+use Rattle.std.proofs.lemmas.List.{length-map, take-append-drop, Splits.{slice_split-cons_no, slice_split-cons_yes}, Folds.{list_all-append}}
+use Rattle.mon_text.{specs.Lines.{is_blank_line, words}, specs.Feeding.{has_no_end}, proofs.Cutting.{last_line}, specs.Characters.{is_line_feed}}
 use Rattle.mon_access.specs.declared.account.Account.{Account}
 use Rattle.mon_catalogue.specs.Progress as progress
-use Rattle.mon_catalogue.specs.Progress.{Progress, step}
-use Rattle.deck_lines.specs.declared.deck_error.DeckError.{DeckError}
-use Rattle.deck_lines.specs.declared.deck_error.DeckError.TheVariants.{LineTooLong, Truncated}
-use Rattle.deck_syntax.specs.declared.job.OpenJob.{OpenJob}
-use Rattle.deck_syntax.specs.declared.request.Request.{Request}
-use Rattle.deck_syntax.specs.declared.request.Request.TheVariants as request
-use Rattle.mon_catalogue.specs.Sets.{Sets}
-use Rattle.scheduler.specs.Marks.{Marks}
-use Rattle.deck_syntax.specs.Decks.{Deck, Cards, Commands, Enters, Gives, Drains, Ending, Stopped, Refused}
-use Rattle.deck_syntax.specs.Laws.{Decides}
-use Rattle.deck_syntax.proofs.Standing.{refusals_stand}
+use Rattle.mon_catalogue.specs.{Progress.{Progress, step}, Sets.{Sets}}
+use Rattle.deck_lines.specs.declared.deck_error.DeckError.{DeckError, TheVariants.{LineTooLong, Truncated}}
 use Rattle.deck_lines.specs.Refusing.{line_refusal, is_dollar_line}
-use Rattle.deck_syntax.specs.Jobs.{job_line_refusal, ends_job, after_job_line}
+use Rattle.deck_syntax.specs.{declared.job.OpenJob.{OpenJob}, declared.request.Request.{Request}, Laws.{Decides}, inner.Parts.{version_in}}
+use Rattle.deck_syntax.specs.{Decks.{Deck, Cards, Commands, Enters, Gives, Drains, Ending, Stopped, Refused}, Jobs.{job_line_refusal, ends_job, after_job_line}}
 use Rattle.deck_syntax.specs.Requests.{opened, set_acl_of, with_line, list_line_refusal, stream_refusal, request_on}
+use Rattle.deck_syntax.proofs.{Standing.{refusals_stand}, Shorthand.{goes_on, deck_goes_on}}
+use Rattle.deck_syntax.specs.declared.request.Request.TheVariants as request
+use Rattle.scheduler.specs.Marks.{Marks}
 use Rattle.deck_syntax.specs.Sections.{Open, Closed, InList, InJob, asked_then, requested, stream_section, sets_of, ends_catalogue, catalogue_refusal, catalogue_section, accounts_refusal, table_after, accounts_section, opening_refusal, opening_section, deck_of}
-use Rattle.deck_syntax.specs.inner.Parts.{version_in}
-use Rattle.mon_device.specs.Devices.{holding}
-use Rattle.mon_device.proofs.Holding.{holding-nothing}
-use Rattle.deck_driver.specs.declared.options.Counts.{Counts}
-use Rattle.deck_driver.specs.declared.options.Options.{Options}
-use Rattle.deck_driver.specs.declared.feed.DeckFeed.{DeckFeed}
-use Rattle.deck_driver.specs.declared.section.Section.{Section}
-use Rattle.deck_driver.specs.declared.section.DeckState.{DeckState}
-use Rattle.deck_driver.specs.declared.section.DeckState.TheVariants as state
-use Rattle.deck_driver.specs.RunStates.{RunState, opening, all_counted}
-use Rattle.deck_driver.specs.Printouts.{answer_to, output_of}
-use Rattle.deck_driver.proofs.Verdicts.{verdict}
-use Rattle.deck_driver.specs.Feeds.{outcome, outcome_of, error_at, is_reading, concluded, sets_left, Outcome, Conclusion, Good, Bad}
-use Rattle.deck_driver.specs.Feeds.{more as after}
-use Rattle.deck_driver.specs.Abstraction.{outcome_from, audit_told}
-use Rattle.deck_driver.specs.inner.Counting.{lines_ended}
-use Rattle.deck_driver.proofs.Following.{told_refused, too_long, list_too_long, long_refused, outcome_refused}
-use Rattle.mon_device.specs.Putting.{Standing, Puts}
-use Rattle.mon_device.proofs.Putting.{puts_same}
+use Rattle.mon_device.{specs.Devices.{holding}, proofs.Holding.{holding-nothing}, specs.Putting.{Standing, Puts}, proofs.Putting.{puts_same}}
+use Rattle.deck_driver.specs.declared.{options.Counts.{Counts}, options.Options.{Options}, feed.DeckFeed.{DeckFeed}}
+use Rattle.deck_driver.specs.{declared.section.Section.{Section}, declared.section.DeckState.{DeckState}, RunStates.{RunState, opening, all_counted}}
+use Rattle.deck_driver.specs.{Printouts.{answer_to, output_of}, Abstraction.{outcome_from, audit_told}, inner.Counting.{lines_ended}}
+use Rattle.deck_driver.specs.Feeds.{outcome, outcome_of, error_at, is_reading, concluded, sets_left, Outcome, Conclusion, Good, Bad, more as after}
 use Rattle.deck_driver.specs.Audits.{told_to, told_from, audit_for}
-use Rattle.deck_run.specs.Runs.{deck_ending, run_state_of, whole_lines, HasAnswered, HasPrinted, HasBrokenOff, HasBrokenOffAt}
+use Rattle.deck_driver.proofs.{Verdicts.{verdict}, Following.{told_refused, too_long, list_too_long, long_refused, outcome_refused}}
+use Rattle.deck_driver.specs.declared.section.DeckState.TheVariants as state
+use Rattle.deck_run.{specs.Runs.{deck_ending, run_state_of, whole_lines, HasAnswered, HasPrinted, HasBrokenOff, HasBrokenOffAt}, proofs.Running.{Opens, Tells}}
 use Rattle.deck_run.specs.inner.Writing.{Held, Runs, Stands, BrokeAt}
-use Rattle.deck_run.proofs.Running.{Opens, Tells}
-use Rattle.mon_text.specs.Characters.{is_line_feed}
-use Rattle.std.specs.Option.{option_or}
-use Rattle.deck_syntax.proofs.Shorthand.{goes_on, deck_goes_on}
 
 -- ---- a deck that is refused prints the same wherever and for whatever that is
 

@@ -1,13 +1,8 @@
 -- What stays of a run's answer behind the line of its end.
 use Rattle.std.proofs.Common.{◌≡◌, ◌⊎◌, inl, inr, ℕ, Bool, true, false, List, Option, Result, Ok, Err, IfSome, IfOk, OnOk, sym, ap, subst, ◌∙◌}
 use Rattle.mon_device.specs.Putting.{Standing, Puts}
-use Rattle.deck_driver.specs.declared.fault.RunError.{RunError}
-use Rattle.deck_driver.specs.declared.fault.RunError.TheVariants.{AuditFault}
-use Rattle.deck_driver.specs.declared.options.Counts.{Counts}
-use Rattle.deck_driver.specs.declared.options.Options.{Options}
-use Rattle.deck_run.specs.Audited.{is_broken, Then, end_told, IsWrittenAhead}
-use Rattle.deck_run.proofs.Running.{if_some}
-use Rattle.deck_run.proofs.Ahead.{taken_later}
+use Rattle.deck_driver.specs.declared.{fault.RunError.{RunError}, fault.RunError.TheVariants.{AuditFault}, options.Counts.{Counts}, options.Options.{Options}}
+use Rattle.deck_run.{specs.Audited.{is_broken, Then, end_told, IsWrittenAhead}, proofs.Running.{if_some}, proofs.Ahead.{taken_later}}
 
 -- an answer stays, or the audit was not taken
 abbrev pub Stays : Result Counts RunError → Result Counts RunError → Bool → Bool → Type 0

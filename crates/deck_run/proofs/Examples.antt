@@ -1,37 +1,23 @@
 -- The definitions at worked cases.
 use Rattle.std.proofs.Common.{subst, sym}
-use Rattle.std.specs.Prelude.{◌≡◌, ℕ, true, false, List, [], ◌∷◌, ◌++◌, Some, None, codes, refl, replicate}
-use Rattle.std.specs.Fmt.{digits}
-use Rattle.mon_acl.specs.declared.entries.Entry.{Entry}
-use Rattle.mon_acl.specs.declared.entries.Tag.TheVariants.{UserObj, GroupObj, Other}
-use Rattle.mon_access.specs.declared.account.Account.{Account}
-use Rattle.mon_access.specs.AccessCheck.{decision}
-use Rattle.mon_access.specs.Accounts.{find_account}
-use Rattle.mon_catalogue.specs.declared.mode.Mode.TheVariants.{Seq}
-use Rattle.mon_catalogue.specs.Sets.{Sets}
+use Rattle.std.specs.{Prelude.{◌≡◌, ℕ, true, false, List, [], ◌∷◌, ◌++◌, Some, None, codes, refl, replicate}, Fmt.{digits}, Str.Lines.{lines}}
+use Rattle.mon_acl.specs.declared.entries.{Entry.{Entry}, Tag.TheVariants.{UserObj, GroupObj, Other}}
+use Rattle.mon_access.specs.{declared.account.Account.{Account}, AccessCheck.{decision}, Accounts.{find_account}}
+use Rattle.mon_catalogue.specs.{declared.mode.Mode.TheVariants.{Seq}, Sets.{Sets}}
 use Rattle.interaction.specs.declared.answer.Reason.TheVariants.{By, NoSet}
-use Rattle.mon_command.specs.declared.reply.Reply.TheVariants.{Denied}
+use Rattle.mon_command.specs.{declared.reply.Reply.TheVariants.{Denied}, Commanded.{Told}}
 use Rattle.mon_command.specs.Commanded as commands
-use Rattle.mon_command.specs.Commanded.{Told}
 use Rattle.scheduler.specs.Marks.{Marks}
-use Rattle.mon_monitor.specs.History.{Entry as AnEntry, Ordered, history}
-use Rattle.mon_monitor.specs.Turns.{Stage, BringInOrder}
+use Rattle.mon_monitor.specs.{History.{Entry as AnEntry, Ordered, history}, Turns.{Stage, BringInOrder}}
 use Rattle.deck_lines.specs.declared.card.Card.TheVariants as card
 use Rattle.deck_lines.specs.declared.deck_error.DeckError.TheVariants.{BadName, BadCharacter, AccountTwice, UnknownCard, BadCard, OutOfPlace, Truncated}
-use Rattle.deck_syntax.specs.Decks.{Commands, Stopped, Refused}
-use Rattle.deck_lines.specs.Cards.{card_of}
-use Rattle.deck_lines.specs.Refusing.{line_refusal, lone_card_refusal}
-use Rattle.deck_syntax.specs.Sections.{account_refusal, deck_of}
-use Rattle.deck_syntax.specs.Requests.{two_names_refusal, request_on}
-use Rattle.deck_run.specs.Laws.{printout}
+use Rattle.deck_lines.specs.{Cards.{card_of}, Refusing.{line_refusal, lone_card_refusal}}
+use Rattle.deck_syntax.specs.{Decks.{Commands, Stopped, Refused}, Sections.{account_refusal, deck_of}, Requests.{two_names_refusal, request_on}}
+use Rattle.deck_syntax.specs.declared.request.Request.TheVariants.{Asks, OpensList}
+use Rattle.deck_run.specs.{Laws.{printout}, Runs.{deck_ending, counts_of}, Headline.{history_of}}
 use Rattle.acl_text.specs.declared.text.AclText.TheVariants.{Short, Long}
 use Rattle.deck_lines.specs.declared.command.Command.TheVariants as command
-use Rattle.deck_syntax.specs.declared.request.Request.TheVariants.{Asks, OpensList}
-use Rattle.std.specs.Str.Lines.{lines}
-use Rattle.deck_driver.specs.declared.options.Options.{Options}
-use Rattle.deck_driver.specs.RunStates.{opening, events_in}
-use Rattle.deck_run.specs.Runs.{deck_ending, counts_of}
-use Rattle.deck_run.specs.Headline.{history_of}
+use Rattle.deck_driver.specs.{declared.options.Options.{Options}, RunStates.{opening, events_in}}
 
 stop_card : card_of (codes "$STOP") ≡ Some card.Stop
 stop_card = refl

@@ -1,26 +1,12 @@
 -- The list of a deck tells all of it.
 use Rattle.std.proofs.Common.{◌≡◌, ◌≢◌, ◌<◌, ◌==◌, ℕ, suc, Bool, true, false, List, [], ◌∷◌, ◌++◌, Some, None, refl, ap, ◌∙◌, arith}
-use Rattle.std.specs.Prelude.{if◌then◌else◌}
-use Rattle.std.specs.Str.Lines.{lines}
-use Rattle.std.proofs.lemmas.Bool.{eqb-true}
-use Rattle.scheduler.specs.States.{job_in}
-use Rattle.scheduler.specs.Marks.{Marks}
-use Rattle.mon_monitor.specs.SystemStates.{SystemState}
-use Rattle.mon_monitor.specs.Events.{Event, Drain}
-use Rattle.mon_monitor.specs.Printouts.{Printout, printouts_text}
-use Rattle.mon_monitor.specs.Played.{Played, played}
-use Rattle.mon_monitor.specs.Laws.{CardByCard, DrainEmpties}
-use Rattle.mon_monitor.specs.Headline.{job_of, NumbersDiffer, HistoryTells}
-use Rattle.mon_monitor.specs.Turns.{TurnsCome}
-use Rattle.deck_syntax.specs.Decks.{Asked, Commands, Enters, Gives, Drains, Ending, Stopped, Refused}
-use Rattle.deck_syntax.specs.Jobs.{job_deck_of}
-use Rattle.deck_syntax.specs.Sections.{deck_of}
-use Rattle.deck_driver.specs.RunStates.{events_of, played_run_state}
-use Rattle.deck_driver.proofs.Verdicts.{at_end}
-use Rattle.deck_driver.specs.Printouts.{closing}
-use Rattle.deck_run.specs.Runs.{run_state_of}
-use Rattle.deck_run.specs.Headline.{asked_of, Headline}
-use Rattle.deck_run.proofs.Ordered.{is_run}
+use Rattle.std.{specs.Prelude.{if◌then◌else◌}, specs.Str.Lines.{lines}, proofs.lemmas.Bool.{eqb-true}}
+use Rattle.scheduler.specs.{States.{job_in}, Marks.{Marks}}
+use Rattle.mon_monitor.specs.{SystemStates.{SystemState}, Events.{Event, Drain}, Printouts.{Printout, printouts_text}, Played.{Played, played}}
+use Rattle.mon_monitor.specs.{Laws.{CardByCard, DrainEmpties}, Headline.{job_of, NumbersDiffer, HistoryTells}, Turns.{TurnsCome}}
+use Rattle.deck_syntax.specs.{Decks.{Asked, Commands, Enters, Gives, Drains, Ending, Stopped, Refused}, Jobs.{job_deck_of}, Sections.{deck_of}}
+use Rattle.deck_driver.{specs.RunStates.{events_of, played_run_state}, proofs.Verdicts.{at_end}, specs.Printouts.{closing}}
+use Rattle.deck_run.{specs.Runs.{run_state_of}, specs.Headline.{asked_of, Headline}, proofs.Ordered.{is_run}}
 
 -- JOBS ARE NUMBERED IN THEIR ORDER
 

@@ -1,23 +1,16 @@
 -- What a writer holds after what was gathered, and what is still to come.
 use Rattle.std.proofs.Common.{◌≡◌, ◌≤◌, ◌+◌, ℕ, true, List, [], ◌++◌, take, drop, Option, Some, None, refl, sym, ap, subst, ◌∙◌, arith, append_assoc, append-nil}
 use Rattle.std.proofs.lemmas.List.{append_cancel_left, take-append-drop}
-use Rattle.mon_device.specs.Devices.{holding}
-use Rattle.mon_device.specs.Putting.{Standing, Puts}
-use Rattle.mon_device.proofs.Putting.{puts_nothing, puts_same, puts_then}
-use Rattle.mon_device.proofs.Holding.{holding-append, holding-nothing}
+use Rattle.mon_device.specs.{Devices.{holding}, Putting.{Standing, Puts}}
+use Rattle.mon_device.proofs.{Putting.{puts_nothing, puts_same, puts_then}, Holding.{holding-append, holding-nothing}}
 use Rattle.deck_lines.specs.declared.deck_error.DeckError.{DeckError}
-use Rattle.deck_driver.specs.declared.feed.DeckFeed.{DeckFeed}
+use Rattle.deck_driver.specs.declared.{feed.DeckFeed.{DeckFeed}, options.Counts.{Counts}, section.DeckState.{DeckState}}
+use Rattle.deck_driver.specs.{Feeds.{Outcome, behind, refused_at, Bad, Begins, is_reading, error_at, may_grow, used_by}, inner.Counting.{lines_ended}}
+use Rattle.deck_driver.{specs.Abstraction.{told, audit_told, Took, Begun as Beginning}, proofs.Parts.{ended_further}}
 use Rattle.scheduler.specs.Marks.{Marks}
-use Rattle.deck_driver.specs.declared.options.Counts.{Counts}
-use Rattle.deck_driver.specs.Feeds.{Outcome, behind, refused_at, Bad, Begins, is_reading, error_at, may_grow, used_by}
-use Rattle.deck_driver.specs.declared.section.DeckState.{DeckState}
 use Rattle.deck_driver.specs.declared.section.DeckState.TheVariants as state
-use Rattle.deck_driver.specs.Abstraction.{told, audit_told, Took, Begun as Beginning}
 use Rattle.mon_text.specs.Feeding.{taken_of}
-use Rattle.deck_driver.specs.inner.Counting.{lines_ended}
-use Rattle.deck_driver.proofs.Parts.{ended_further}
-use Rattle.deck_run.specs.Runs.{HoldsBeginning}
-use Rattle.deck_run.specs.inner.Writing.{Held, holds, HasGrown, Serves, Refuses, Starts, Stands, BrokeOffAt}
+use Rattle.deck_run.specs.{Runs.{HoldsBeginning}, inner.Writing.{Held, holds, HasGrown, Serves, Refuses, Starts, Stands, BrokeOffAt}}
 
 pub kept : (w w' : Option (List ℕ)) (out out' x : List ℕ) → holding w' out' ≡ holding w out → holding w' (out' ++ x) ≡ holding w (out ++ x)
 kept w w' out out' x same = sym (holding-append w' out' x) ∙ ap (λ h. holding h x) same ∙ holding-append w out x

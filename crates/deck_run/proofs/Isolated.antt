@@ -1,27 +1,15 @@
 -- Decks that an account can't tell apart.
 use Rattle.std.proofs.Common.{◌≡◌, ℕ, zero, suc, true, replicate, List, [], ◌∷◌, ◌++◌, Some, None, ◌⊎◌, inl, inr, refl, sym, ap, subst, ◌∙◌}
-use Rattle.std.specs.List.{AllByRecursion, list_all}
-use Rattle.std.specs.Str.Lines.{lines}
-use Rattle.std.specs.Prelude.{is_none}
+use Rattle.std.specs.{List.{AllByRecursion, list_all}, Str.Lines.{lines}, Prelude.{is_none}}
 use Rattle.mon_access.specs.declared.account.Account.{Account}
 use Rattle.mon_catalogue.specs.Sets.{NamesDiffer}
-use Rattle.scheduler.specs.States.{SlotState, seat_at}
-use Rattle.scheduler.specs.Marks.{Marks}
-use Rattle.scheduler.proofs.Seats.{none_at}
-use Rattle.mon_monitor.specs.SystemStates.{SystemState}
-use Rattle.mon_monitor.specs.Events.{Event}
-use Rattle.mon_monitor.specs.Printouts.{Printout, printouts_text}
-use Rattle.mon_monitor.specs.Played.{played}
+use Rattle.scheduler.{specs.States.{SlotState, seat_at}, specs.Marks.{Marks}, proofs.Seats.{none_at}}
+use Rattle.mon_monitor.specs.{SystemStates.{SystemState}, Events.{Event}, Printouts.{Printout, printouts_text}, Played.{played}, Isolation.{IsOwn, Isolated}}
 use Rattle.mon_monitor.specs.Agreeing.{LooksAlike, Both, Agree}
-use Rattle.mon_monitor.specs.Isolation.{IsOwn, Isolated}
-use Rattle.deck_syntax.specs.Decks.{Deck, Asked, Commands, Enters, Gives, Drains, Ending, Stopped, Refused}
-use Rattle.deck_syntax.specs.Laws.{ReadingSpells, GoodBeginnings}
+use Rattle.deck_syntax.specs.{Decks.{Deck, Asked, Commands, Enters, Gives, Drains, Ending, Stopped, Refused}, Laws.{ReadingSpells, GoodBeginnings}}
 use Rattle.deck_syntax.specs.Sections.{deck_of}
-use Rattle.deck_driver.specs.RunStates.{RunState, opening, events_of, events_in}
-use Rattle.deck_driver.proofs.Verdicts.{at_end}
-use Rattle.deck_driver.specs.Printouts.{closing}
-use Rattle.deck_run.specs.Runs.{deck_ending, run_state_of, catalogue_after}
-use Rattle.deck_run.specs.Isolation.{IsOwnCard, EndAlike, DecksAlike, DecksIsolated}
+use Rattle.deck_driver.{specs.RunStates.{RunState, opening, events_of, events_in}, proofs.Verdicts.{at_end}, specs.Printouts.{closing}}
+use Rattle.deck_run.specs.{Runs.{deck_ending, run_state_of, catalogue_after}, Isolation.{IsOwnCard, EndAlike, DecksAlike, DecksIsolated}}
 use Rattle.deck_run.proofs.Ordered.{is_run}
 
 -- no job sits in a slot at first

@@ -2,19 +2,12 @@
 use Rattle.std.proofs.Common.{◌≡◌, ℕ, suc, ◌+◌, Bool, true, false, if◌then◌else◌, List, [], ◌∷◌, ◌++◌, refl, ap, ◌∙◌, arith, append_assoc}
 use Rattle.std.proofs.lemmas.List.Concat.{flat_map-append}
 use Rattle.scheduler.specs.Marks.{Marks}
-use Rattle.mon_monitor.specs.SystemStates.{SystemState}
-use Rattle.mon_monitor.specs.Events.{Event, Serve, Load, Give, Drain}
-use Rattle.mon_monitor.specs.Printouts.{Printout, printout_text, printouts_text}
-use Rattle.mon_monitor.specs.Played.{Played, played}
-use Rattle.mon_monitor.specs.Laws.{AsUnmarked, CardByCard, PlayedUnmarked}
-use Rattle.deck_syntax.specs.Decks.{Asked, Commands, Enters, Gives, Drains, Ending}
-use Rattle.deck_syntax.specs.Jobs.{job_deck_of}
-use Rattle.deck_driver.specs.declared.options.Options.{Options}
-use Rattle.deck_driver.specs.RunStates.{RunState, events_of, events_in, played_run_state}
-use Rattle.deck_driver.proofs.Verdicts.{at_end, verdict}
-use Rattle.deck_driver.specs.Printouts.{closing, answer_to, output_of_run_state, output_of}
-use Rattle.deck_run.specs.Runs.{run_state_of}
-use Rattle.deck_run.specs.Laws.{done, jobs_in, rest_of_output, InOrder, InItsPlace, Unmarked}
+use Rattle.mon_monitor.specs.{SystemStates.{SystemState}, Events.{Event, Serve, Load, Give, Drain}, Printouts.{Printout, printout_text, printouts_text}}
+use Rattle.mon_monitor.specs.{Played.{Played, played}, Laws.{AsUnmarked, CardByCard, PlayedUnmarked}}
+use Rattle.deck_syntax.specs.{Decks.{Asked, Commands, Enters, Gives, Drains, Ending}, Jobs.{job_deck_of}}
+use Rattle.deck_driver.specs.{declared.options.Options.{Options}, RunStates.{RunState, events_of, events_in, played_run_state}}
+use Rattle.deck_driver.{proofs.Verdicts.{at_end, verdict}, specs.Printouts.{closing, answer_to, output_of_run_state, output_of}}
+use Rattle.deck_run.specs.{Runs.{run_state_of}, Laws.{done, jobs_in, rest_of_output, InOrder, InItsPlace, Unmarked}}
 
 jobs_both : (xs ys : List Asked) → jobs_in (xs ++ ys) ≡ jobs_in xs + jobs_in ys
 jobs_both [] ys = omega arith

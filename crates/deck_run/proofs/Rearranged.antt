@@ -1,7 +1,6 @@
 -- Two lists of ends in which each slot has the same are one list but for its order.
 use Rattle.std.proofs.Common.{◌≡◌, ◌≢◌, ◌==◌, ℕ, Bool, true, false, cond, List, [], ◌∷◌, refl, sym, ap, subst, ◌∙◌, inl, inr, eq-eqb, IsPermutation}
-use Rattle.std.proofs.lemmas.Bool.Decides.{eqb_tells}
-use Rattle.std.proofs.lemmas.List.Sorted.{IsPermutation-refl, IsPermutation-cons, IsPermutation-trans, IsPermutation-middle}
+use Rattle.std.proofs.lemmas.{Bool.Decides.{eqb_tells}, List.Sorted.{IsPermutation-refl, IsPermutation-cons, IsPermutation-trans, IsPermutation-middle}}
 use Rattle.job_end.specs.declared.job_end.JobEnd.{JobEnd}
 use Rattle.mon_monitor.specs.Schedules.{of_slot}
 

@@ -3,24 +3,15 @@ use Rattle.std.proofs.Common.{◌≡◌, ℕ, true, false, List, [], ◌++◌, l
 use Rattle.std.proofs.lemmas.Bool.Decides.{nat_tests}
 use Rattle.mon_catalogue.specs.Sets.{Sets}
 use Rattle.scheduler.specs.Marks.{Marks}
-use Rattle.mon_device.specs.declared.transfer.TheConstants.{READ_SIZE}
-use Rattle.mon_device.specs.Devices.{holding, Gives, IsAtEnd, HasRead}
-use Rattle.mon_device.specs.Putting.{Standing, Puts}
-use Rattle.mon_device.proofs.Putting.{puts_nothing, puts_same, puts_then}
-use Rattle.deck_driver.specs.Audits.{audit_for}
-use Rattle.mon_device.proofs.Holding.{holding-nothing}
+use Rattle.mon_device.specs.{declared.transfer.TheConstants.{READ_SIZE}, Devices.{holding, Gives, IsAtEnd, HasRead}, Putting.{Standing, Puts}}
+use Rattle.mon_device.proofs.{Putting.{puts_nothing, puts_same, puts_then}, Holding.{holding-nothing}}
+use Rattle.deck_driver.specs.{Audits.{audit_for}, declared.feed.DeckFeed.{DeckFeed}, declared.fault.RunError.{RunError}, declared.options.Counts.{Counts}}
+use Rattle.deck_driver.specs.{declared.fault.RunError.TheVariants.{ReadFault, Memory}, declared.options.Options.{Options}, Printouts.{output_of, ReadsBack}}
+use Rattle.deck_driver.specs.{RunStates.{RunState, sets_after, all_counted, nothing_counted}, Abstraction.{told, audit_told}}
+use Rattle.deck_driver.specs.Feeds.{outcome_of, refused_at, is_reading, IsReadBack, concluded, sets_left, Outcome, Conclusion, Good, Bad, Begins}
+use Rattle.deck_driver.proofs.Parts.{ended_further}
 use Rattle.deck_lines.specs.declared.deck_error.DeckError.{DeckError}
 use Rattle.deck_syntax.specs.Decks.{Ending, Stopped, Refused}
-use Rattle.deck_driver.specs.declared.feed.DeckFeed.{DeckFeed}
-use Rattle.deck_driver.specs.declared.fault.RunError.{RunError}
-use Rattle.deck_driver.specs.declared.fault.RunError.TheVariants.{ReadFault, Memory}
-use Rattle.deck_driver.specs.declared.options.Counts.{Counts}
-use Rattle.deck_driver.specs.declared.options.Options.{Options}
-use Rattle.deck_driver.specs.RunStates.{RunState, sets_after, all_counted, nothing_counted}
-use Rattle.deck_driver.specs.Printouts.{output_of, ReadsBack}
-use Rattle.deck_driver.specs.Feeds.{outcome_of, refused_at, is_reading, IsReadBack, concluded, sets_left, Outcome, Conclusion, Good, Bad, Begins}
-use Rattle.deck_driver.specs.Abstraction.{told, audit_told}
-use Rattle.deck_driver.proofs.Parts.{ended_further}
 use Rattle.deck_run.specs.Runs.{deck_ending, run_state_of, counts_of, HoldsBeginning, HasWritten, HasRun, HasBegun}
 use Rattle.deck_run.specs.inner.Writing.{Held, holds, Begun, Runs, Refuses, Starts, Stands, IsDue, BrokeOffAt, BrokeAt}
 use Rattle.deck_run.proofs.Holdings.{flushed, nothing_held, held_begins, not_grown, has_grown, grown_further, grown_held, no_error, stands_at_start, stands_further, refuses_further, starts_further}

@@ -1,22 +1,15 @@
 -- A job that memory ended shows it: a line of its printout, not the first, begins with these words.
 use Rattle.std.proofs.Common.{◌≡◌, ℕ, Bool, true, false, List, [], ◌∷◌, ◌++◌, refl, sym, ap, ◌∙◌, subst, append_assoc, append-nil}
-use Rattle.std.specs.Prelude.{codes}
-use Rattle.std.specs.List.{flat_map, AllByRecursion}
-use Rattle.sno_run.specs.declared.ending.Ending.{Ending}
-use Rattle.sno_run.specs.declared.ending.Ending.TheVariants.{Memory}
+use Rattle.std.specs.{Prelude.{codes}, List.{flat_map, AllByRecursion}}
+use Rattle.sno_run.specs.declared.ending.Ending.{Ending, TheVariants.{Memory}}
 use Rattle.mon_command.specs.Printouts.{number, word, stored_line}
 use Rattle.audit.specs.Words.{job_line}
 use Rattle.mon_unit.specs.declared.note.Note.{Note}
-use Rattle.job_end.specs.declared.job_end.JobEnd.{JobEnd}
-use Rattle.job_end.specs.Printouts.{note_words, exchange_words, note_line, ending_words, printout}
+use Rattle.job_end.specs.{declared.job_end.JobEnd.{JobEnd}, Printouts.{note_words, exchange_words, note_line, ending_words, printout}}
 use Rattle.scheduler.specs.Marks.{Marks}
-use Rattle.mon_monitor.specs.Printouts.{Printout, OfCommand, OfJob, OfRefused, printout_text, printouts_text}
-use Rattle.mon_monitor.specs.Laws.{NotByMemory}
-use Rattle.deck_driver.specs.declared.options.Options.{Options}
-use Rattle.deck_driver.specs.RunStates.{played_run_state}
-use Rattle.deck_driver.specs.Printouts.{closing, answer_to, output_of}
-use Rattle.deck_run.specs.Runs.{run_state_of}
-use Rattle.deck_run.specs.Laws.{HasLineWith, Unmarked, ShowsItsMarks}
+use Rattle.mon_monitor.specs.{Printouts.{Printout, OfCommand, OfJob, OfRefused, printout_text, printouts_text}, Laws.{NotByMemory}}
+use Rattle.deck_driver.specs.{declared.options.Options.{Options}, RunStates.{played_run_state}, Printouts.{closing, answer_to, output_of}}
+use Rattle.deck_run.specs.{Runs.{run_state_of}, Laws.{HasLineWith, Unmarked, ShowsItsMarks}}
 
 -- LINES
 

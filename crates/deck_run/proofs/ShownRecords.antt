@@ -1,22 +1,15 @@
 -- A printout with records is that of a granted card: the other printouts begin differently.
 use Rattle.std.proofs.Common.{◌≡◌, ℕ, List, [], ◌∷◌, ◌++◌, Option, Some, None, refl, sym, ap, ◌∙◌, codes, get_or, arith}
 use Rattle.std.proofs.lemmas.List.{append_cancel_left}
-use Rattle.mon_access.specs.declared.account.Account.{Account}
-use Rattle.mon_access.specs.declared.access.Decision.{Decision}
-use Rattle.mon_access.specs.declared.access.Decision.TheVariants.{Granted, Denied}
+use Rattle.mon_access.specs.declared.{account.Account.{Account}, access.Decision.{Decision}, access.Decision.TheVariants.{Granted, Denied}}
 use Rattle.mon_access.specs.Accounts.{find_account}
-use Rattle.mon_catalogue.specs.declared.data_set.DataSet.{DataSet}
-use Rattle.mon_catalogue.specs.Sets.{Sets, find_set}
-use Rattle.mon_guard.specs.Deciding.{decision_on, to_read}
-use Rattle.mon_guard.specs.inner.Parts.{by_decision}
+use Rattle.mon_catalogue.specs.{declared.data_set.DataSet.{DataSet}, Sets.{Sets, find_set}}
+use Rattle.mon_guard.{specs.Deciding.{decision_on, to_read}, specs.inner.Parts.{by_decision}, proofs.Shorthand.{records_of}}
 use Rattle.deck_lines.specs.declared.command.Command.{Command}
 use Rattle.deck_lines.specs.declared.command.Command.TheVariants as command
-use Rattle.mon_command.specs.Commanded.{Records, answer_text, shown_as}
-use Rattle.mon_command.specs.Commands.{heading}
-use Rattle.mon_command.specs.Printouts.{records_text}
-use Rattle.deck_run.specs.Laws.{printout, Meets, MayRead, Shows, ShowsWhereGranted, SaysWhy, DenialsSayWhy}
-use Rattle.mon_guard.proofs.Shorthand.{records_of}
+use Rattle.mon_command.specs.{Commanded.{Records, answer_text, shown_as}, Commands.{heading}, Printouts.{records_text}}
 use Rattle.mon_command.proofs.Shorthand.{served_if_known}
+use Rattle.deck_run.specs.Laws.{printout, Meets, MayRead, Shows, ShowsWhereGranted, SaysWhy, DenialsSayWhy}
 
 -- records begin with a blank, or with their number
 no_account_text : (records : List (List ℕ)) → codes "REFUSED M2 NO ACCOUNT\n" ≡ records_text records → ⊥

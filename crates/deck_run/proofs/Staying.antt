@@ -1,33 +1,19 @@
 -- What events leave as it was: that the names of data sets differ; and of a job that goes on, what its units are tied to.
 use Rattle.std.proofs.Common.{◌≡◌, ℕ, zero, suc, nat_eq, Bool, true, false, List, [], ◌∷◌, length, Option, Some, None, ◌⊎◌, inl, inr, refl, sym, ap, subst, ◌∙◌, slice_get, slice_set, if◌then◌else◌, bytes_eq}
-use Rattle.std.specs.List.{IsDistinct}
-use Rattle.std.specs.Cmp.Lexicographic.{pointwise}
+use Rattle.std.specs.{List.{IsDistinct}, Cmp.Lexicographic.{pointwise}, Option.{option_flatten}, Prelude.{drop, replicate}}
 use Rattle.std.proofs.lemmas.Slice.Eq.{bytes_eq-Decides}
-use Rattle.std.specs.Option.{option_flatten}
-use Rattle.std.specs.Prelude.{drop, replicate}
-use Rattle.sno_run.specs.declared.ending.Step.{Step}
+use Rattle.sno_run.specs.{declared.ending.Step.{Step}, Jobs.{turn_of}}
 use Rattle.sno_run.specs.declared.ending.Step.TheVariants as step
-use Rattle.sno_run.specs.Jobs.{turn_of}
-use Rattle.mon_access.specs.declared.account.Account.{Account}
-use Rattle.mon_access.specs.Accounts.{find_account}
+use Rattle.mon_access.specs.{declared.account.Account.{Account}, Accounts.{find_account}}
 use Rattle.mon_catalogue.specs.Sets.{Sets, NamesDiffer}
-use Rattle.deck_lines.specs.declared.command.Command.{Command}
-use Rattle.deck_lines.specs.Commands.{account_of}
-use Rattle.mon_command.specs.Commanded.{commanded}
-use Rattle.mon_unit.specs.Laws.{targets, KeepsToTies}
-use Rattle.mon_unit.proofs.Looks.{run_keeps_to_ties, cut_keeps_to_ties}
-use Rattle.scheduler.specs.States.{SlotState, SchedulerState, scheduler, seat_at, with_seat, job_in}
-use Rattle.scheduler.specs.Turns.{reached, after_turn, seat, ends_by}
+use Rattle.deck_lines.specs.{declared.command.Command.{Command}, Commands.{account_of}}
+use Rattle.mon_command.{specs.Commanded.{commanded}, proofs.Shorthand.{served_if_known}}
+use Rattle.mon_unit.{specs.Laws.{targets, KeepsToTies}, proofs.Looks.{run_keeps_to_ties, cut_keeps_to_ties}}
+use Rattle.scheduler.specs.{States.{SlotState, SchedulerState, scheduler, seat_at, with_seat, job_in}, Turns.{reached, after_turn, seat, ends_by}}
+use Rattle.scheduler.{specs.inner.Parts.{ends_then}, proofs.Shorthand.{turn_as_by, broken_by}}
 use Rattle.scheduler.specs.Marks.{Mark, Marks, mark_of, exchanges_at, may_break, ran_as, turn_as, Past, nothing, until, never, rounds, turns_left, is_done, has_free_slot}
-use Rattle.scheduler.specs.inner.Parts.{ends_then}
-use Rattle.mon_monitor.specs.SystemStates.{SystemState}
-use Rattle.mon_monitor.specs.Events.{Event, Serve, Load, Give, Drain}
-use Rattle.mon_monitor.specs.Played.{happened, played}
-use Rattle.mon_monitor.specs.Agreeing.{LooksAlike, Both, Agree}
-use Rattle.mon_monitor.specs.Isolation.{CommandsAgree}
-use Rattle.mon_command.proofs.Shorthand.{served_if_known}
-use Rattle.scheduler.proofs.Shorthand.{turn_as_by, broken_by}
-use Rattle.mon_monitor.specs.Abstraction.{system}
+use Rattle.mon_monitor.specs.{SystemStates.{SystemState}, Events.{Event, Serve, Load, Give, Drain}, Played.{happened, played}, Isolation.{CommandsAgree}}
+use Rattle.mon_monitor.specs.{Agreeing.{LooksAlike, Both, Agree}, Abstraction.{system}}
 
 -- A TURN
 

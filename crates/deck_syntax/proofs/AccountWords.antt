@@ -1,20 +1,11 @@
 -- The words of an account's line: the first two apart, and the others one after another.
 use Rattle.std.proofs.Common.{◌≡◌, ℕ, zero, suc, ◌+◌, ◌-◌, ◌<◌, ◌≤◌, Bool, true, false, ◌&&◌, List, [], ◌∷◌, ◌++◌, length, drop, take, get_or, Some, None, slice_get, refl, sym, ap, ◌∙◌, arith, nat_lt}
-use Rattle.std.specs.List.{list_all}
-use Rattle.std.proofs.lemmas.List.{take_more}
-use Rattle.std.proofs.lemmas.List.Folds.{list_all_at, list_all_more}
-use Rattle.std.proofs.lemmas.Option.{slice_get_within, get_or_from_slice_get}
-use Rattle.std.proofs.lemmas.Bool.Decides.{nat_tests}
-use Rattle.mon_text.specs.Names.{is_name}
-use Rattle.deck_lines.specs.declared.deck_error.DeckError.{DeckError}
-use Rattle.deck_lines.specs.declared.deck_error.DeckError.TheVariants.{BadName, BadCard}
-use Rattle.mon_text.specs.declared.stop.Stop.{Stop}
-use Rattle.mon_text.specs.declared.stop.Stop.TheVariants.{Refused, Memory}
-use Rattle.deck_lines.specs.inner.Stops.{IfRefused}
+use Rattle.std.{specs.List.{list_all}, proofs.lemmas.List.{take_more}, proofs.lemmas.List.Folds.{list_all_at, list_all_more}, specs.Option.{option_or}}
+use Rattle.std.proofs.lemmas.{Option.{slice_get_within, get_or_from_slice_get}, Bool.Decides.{nat_tests}}
+use Rattle.mon_text.specs.{Names.{is_name}, declared.stop.Stop.{Stop}, declared.stop.Stop.TheVariants.{Refused, Memory}}
+use Rattle.deck_lines.specs.{declared.deck_error.DeckError.{DeckError}, declared.deck_error.DeckError.TheVariants.{BadName, BadCard}, inner.Stops.{IfRefused}}
 use Rattle.deck_lines.specs.Refusing.{unless}
-use Rattle.deck_syntax.specs.Sections.{account_on}
-use Rattle.deck_syntax.specs.inner.Parts.{words_refusal}
-use Rattle.std.specs.Option.{option_or}
+use Rattle.deck_syntax.specs.{Sections.{account_on}, inner.Parts.{words_refusal}}
 
 -- a word behind the first two is one of the others
 others_at : (ws : List (List ℕ)) (place : ℕ) (w : List ℕ) → 2 ≤ place → slice_get ws place ≡ Some w → slice_get (drop 2 ws) (place - 2) ≡ Some w

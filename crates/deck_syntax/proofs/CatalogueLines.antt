@@ -1,18 +1,13 @@
 -- A line where the catalogue would end, and that is no `$STREAM` alone.
 use Rattle.std.proofs.Common.{◌≡◌, Bool, true, false, ◌&&◌, ℕ, List, Option, Some, None, refl, sym, ap, ◌∙◌, subst, if◌then◌else◌}
-use Rattle.std.specs.Prelude.{not}
-use Rattle.mon_text.specs.Lines.{words, is_blank_line}
+use Rattle.std.specs.{Prelude.{not}, Option.{option_or}}
+use Rattle.mon_text.specs.{Lines.{words, is_blank_line}, declared.stop.Stop.{Stop}}
 use Rattle.mon_catalogue.specs.Progress.{Progress, SetDue, ListDue, RecordsDue, Refused, OutOfMemory, step, stopped, is_due}
 use Rattle.deck_lines.specs.declared.card.Card.TheVariants as card
-use Rattle.deck_lines.specs.declared.deck_error.DeckError.{DeckError}
-use Rattle.mon_text.specs.declared.stop.Stop.{Stop}
-use Rattle.mon_text.specs.declared.stop.Stop.TheVariants as stop
-use Rattle.deck_lines.specs.Cards.{is_card, card_among}
-use Rattle.deck_lines.specs.Refusing.{line_refusal, lone_card_refusal}
-use Rattle.deck_syntax.specs.Sections.{ends_catalogue, catalogue_refusal}
-use Rattle.deck_syntax.specs.inner.Parts.{text_refusal}
+use Rattle.deck_lines.specs.{declared.deck_error.DeckError.{DeckError}, Cards.{is_card, card_among}, Refusing.{line_refusal, lone_card_refusal}}
 use Rattle.deck_lines.specs.inner.Stops.{IfRefused}
-use Rattle.std.specs.Option.{option_or}
+use Rattle.mon_text.specs.declared.stop.Stop.TheVariants as stop
+use Rattle.deck_syntax.specs.{Sections.{ends_catalogue, catalogue_refusal}, inner.Parts.{text_refusal}}
 
 -- what ends the catalogue wrongly
 abbrev wrong_end : Progress → List ℕ → Option DeckError

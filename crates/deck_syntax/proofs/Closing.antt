@@ -1,45 +1,26 @@
 -- The lines before a refused one begin a good deck: what closes it.
 use Rattle.std.proofs.Common.{◌≡◌, ℕ, zero, suc, ◌+◌, ◌-◌, ◌==◌, ◌⊎◌, inl, inr, Bool, true, false, if◌then◌else◌, List, [], ◌∷◌, ◌++◌, take, Option, None, Some, Result, Ok, Err, refl, sym, ap, subst, ◌∙◌, arith}
 use borrow.Author.Tests.{ne_eqb}
-use Rattle.std.specs.Prelude.{codes}
-use Rattle.std.specs.List.{AllByRecursion}
+use Rattle.std.specs.{Prelude.{codes}, List.{AllByRecursion}, Option.{option_or}}
 use Rattle.mon_text.specs.Lines.{is_blank_line, words}
-use Rattle.mon_acl.specs.declared.entries.Entry.{Entry}
-use Rattle.mon_acl.specs.declared.entries.Tag.TheVariants.{UserObj, GroupObj, Other}
-use Rattle.mon_acl.specs.declared.refusals.AclError.{AclError}
+use Rattle.mon_acl.specs.declared.{entries.Entry.{Entry}, entries.Tag.TheVariants.{UserObj, GroupObj, Other}, refusals.AclError.{AclError}}
 use Rattle.acl_text.specs.Reading.{read_short}
 use Rattle.mon_access.specs.declared.account.Account.{Account}
-use Rattle.mon_catalogue.specs.declared.version.Version.{Version}
-use Rattle.mon_catalogue.specs.declared.data_set.DataSet.{DataSet}
-use Rattle.mon_catalogue.specs.declared.head.Head.{Head}
-use Rattle.mon_catalogue.specs.declared.loading.CatalogueError.{CatalogueError}
-use Rattle.mon_catalogue.specs.declared.loading.CatalogueError.TheVariants.{BadText}
-use Rattle.mon_catalogue.specs.Head.{head_of, head_refusal}
-use Rattle.mon_catalogue.specs.Records.{is_record}
-use Rattle.mon_catalogue.specs.Sets.{Sets, empty_set}
+use Rattle.mon_catalogue.specs.declared.{version.Version.{Version}, data_set.DataSet.{DataSet}, head.Head.{Head}}
+use Rattle.mon_catalogue.specs.declared.loading.CatalogueError.{CatalogueError, TheVariants.{BadText}}
+use Rattle.mon_catalogue.specs.{Head.{head_of, head_refusal}, Records.{is_record}, Sets.{Sets, empty_set}, inner.Parts.{with_record}}
+use Rattle.mon_catalogue.{specs.Progress.{Progress, step, with_due, after_acl}, proofs.Shorthand.{after_lines, after_head, after_words}}
 use Rattle.mon_catalogue.specs.Progress as progress
-use Rattle.mon_catalogue.specs.Progress.{Progress, step, with_due, after_acl}
-use Rattle.mon_catalogue.specs.inner.Parts.{with_record}
 use Rattle.deck_lines.specs.declared.card.Card.TheVariants as card
-use Rattle.deck_lines.specs.declared.deck_error.DeckError.{DeckError}
-use Rattle.deck_lines.specs.declared.deck_error.DeckError.TheVariants.{Truncated}
-use Rattle.deck_syntax.specs.declared.request.Request.{Request}
-use Rattle.deck_syntax.specs.declared.request.Request.TheVariants as request
-use Rattle.deck_syntax.specs.Decks.{Deck, Cards, Asked, Commands, Enters, Gives, Drains, Stopped, Refused}
+use Rattle.deck_lines.specs.{declared.deck_error.DeckError.{DeckError}, declared.deck_error.DeckError.TheVariants.{Truncated}, CardLines.{IsLineWithin}}
 use Rattle.deck_lines.specs.Refusing.{line_refusal, lone_card_refusal, is_dollar_line}
-use Rattle.deck_syntax.specs.Jobs.{job_line_refusal, ends_job, after_job_line}
+use Rattle.deck_syntax.specs.{declared.request.Request.{Request}, Decks.{Deck, Cards, Asked, Commands, Enters, Gives, Drains, Stopped, Refused}}
+use Rattle.deck_syntax.specs.{Jobs.{job_line_refusal, ends_job, after_job_line}, inner.Parts.{version_in, text_refusal}, Spelling.{IsDeck}}
 use Rattle.deck_syntax.specs.Requests.{opened, with_line, set_acl_of, stream_refusal, request_on, list_line_refusal}
-use Rattle.deck_syntax.specs.Sections.{opening_refusal, accounts_refusal, table_after, sets_of, ends_catalogue, catalogue_refusal, Open, Closed, InList, InJob, asked_then, requested, refused_on_line, stopped, stream_section, refused_early, catalogue_section, accounts_section, opening_section, deck_of}
-use Rattle.deck_syntax.specs.inner.Parts.{version_in, text_refusal}
-use Rattle.deck_lines.specs.CardLines.{IsLineWithin}
-use Rattle.deck_syntax.specs.Spelling.{IsDeck}
 use Rattle.deck_syntax.specs.Laws.{ending_of, IsLeftOpen, BeginsGood, GoodBeginnings}
-use Rattle.deck_syntax.proofs.Complete.{text_taken}
-use Rattle.deck_syntax.proofs.Sound.{deck_spelled}
-use Rattle.deck_syntax.proofs.Standing.{place_of, unasked}
-use Rattle.mon_catalogue.proofs.Shorthand.{after_lines, after_head, after_words}
-use Rattle.std.specs.Option.{option_or}
-use Rattle.deck_syntax.proofs.Shorthand.{goes_on, deck_goes_on}
+use Rattle.deck_syntax.proofs.{Complete.{text_taken}, Sound.{deck_spelled}, Standing.{place_of, unasked}, Shorthand.{goes_on, deck_goes_on}}
+use Rattle.deck_syntax.specs.declared.request.Request.TheVariants as request
+use Rattle.deck_syntax.specs.Sections.{opening_refusal, accounts_refusal, table_after, sets_of, ends_catalogue, catalogue_refusal, Open, Closed, InList, InJob, asked_then, requested, refused_on_line, stopped, stream_section, refused_early, catalogue_section, accounts_section, opening_section, deck_of}
 
 -- what lines say from number n on is refused at line k; those before that line, and some behind them, say what is good
 abbrev Begins : {X : Type 0} → (X → X → List Asked → Type 0) → (List (List ℕ) → X) → ℕ → List (List ℕ) → ℕ → Type 0

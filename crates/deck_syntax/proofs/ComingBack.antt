@@ -1,41 +1,19 @@
 -- What is written of a catalogue is good in the next deck.
 use Rattle.std.proofs.Common.{◌≡◌, ℕ, suc, ◌+◌, ◌*◌, ◌≤◌, true, cond, ◌&&◌, List, [], ◌∷◌, ◌++◌, ◌||◌, map, filter, length, None, Some, refl, sym, subst, ◌∙◌, arith, true≢false, length-append}
-use Rattle.std.specs.Prelude.{codes, decimal}
-use Rattle.std.specs.List.{list_all, join_with_byte, AllByRecursion}
-use Rattle.std.specs.Str.Lines.{lines}
-use Rattle.std.proofs.lemmas.Bool.Decides.{nat_tests}
-use Rattle.std.proofs.lemmas.Fmt.{length-decimal-le}
-use Rattle.std.proofs.lemmas.List.Elements.{recursion_from_All}
-use Rattle.std.proofs.lemmas.List.Sums.{length-filter}
-use Rattle.mon_text.specs.Names.{IsName, is_name_character}
-use Rattle.mon_text.specs.Characters.{is_letter}
-use Rattle.mon_text.specs.Lines.{IsLine}
-use Rattle.mon_acl.specs.declared.entries.Tag.{Tag}
-use Rattle.mon_acl.specs.declared.entries.Tag.TheVariants.{UserObj, User, GroupObj, Group, Mask, Other}
-use Rattle.mon_acl.specs.declared.entries.Entry.{Entry}
-use Rattle.mon_acl.specs.Entries.{IsEntry, IsAcl, has_tag, is_tag, is_named, is_qualified, qualifier, tag_word}
+use Rattle.std.specs.{Prelude.{codes, decimal}, List.{list_all, join_with_byte, AllByRecursion}, Str.Lines.{lines}, Option.{unwrap_or}}
+use Rattle.std.proofs.lemmas.{Bool.Decides.{nat_tests}, Fmt.{length-decimal-le}, List.Elements.{recursion_from_All}, List.Sums.{length-filter}}
+use Rattle.mon_text.specs.{Names.{IsName, is_name_character}, Characters.{is_letter}, Lines.{IsLine}}
+use Rattle.mon_acl.specs.declared.entries.Tag.{Tag, TheVariants.{UserObj, User, GroupObj, Group, Mask, Other}}
+use Rattle.mon_acl.specs.{declared.entries.Entry.{Entry}, Entries.{IsEntry, IsAcl, has_tag, is_tag, is_named, is_qualified, qualifier, tag_word}}
 use Rattle.acl_text.specs.Printing.{entry_text, entry_head, perms_text, short_form}
-use Rattle.mon_access.specs.declared.account.Account.{Account}
-use Rattle.mon_access.specs.Accounts.{HaveDifferentNames}
-use Rattle.mon_catalogue.specs.declared.mode.Mode.{Mode}
-use Rattle.mon_catalogue.specs.declared.mode.Mode.TheVariants.{Seq, Append}
-use Rattle.mon_catalogue.specs.declared.version.Version.TheVariants.{Two}
-use Rattle.mon_catalogue.specs.declared.data_set.DataSet.{DataSet}
-use Rattle.mon_catalogue.specs.Modes.{mode_word}
-use Rattle.mon_catalogue.specs.Records.{is_record}
-use Rattle.mon_catalogue.specs.Sets.{Sets}
-use Rattle.mon_catalogue.specs.Stored.{IsStored, IsStoredSet, ArePrintable}
-use Rattle.mon_catalogue.specs.Text.{set_line, catalogue_lines, text_of}
-use Rattle.mon_catalogue.proofs.Back.{lines_spell}
-use Rattle.mon_catalogue.proofs.Blanks.{both}
-use Rattle.mon_catalogue.proofs.Bytes.{lines_of_text}
-use Rattle.mon_catalogue.proofs.Printable.{catalogue_lines_show}
-use Rattle.deck_syntax.specs.Laws.{deck_lines, deck_over}
-use Rattle.deck_lines.specs.CardLines.{IsLineWithin}
-use Rattle.deck_syntax.specs.Decks.{Asked, Stopped}
-use Rattle.deck_syntax.specs.Spelling.{AreBlank, SpellsAccounts, SpellsStream, IsDeck}
+use Rattle.mon_access.specs.{declared.account.Account.{Account}, Accounts.{HaveDifferentNames}}
+use Rattle.mon_catalogue.specs.declared.{mode.Mode.{Mode}, mode.Mode.TheVariants.{Seq, Append}, version.Version.TheVariants.{Two}}
+use Rattle.mon_catalogue.specs.{declared.data_set.DataSet.{DataSet}, Modes.{mode_word}, Records.{is_record}, Sets.{Sets}}
+use Rattle.mon_catalogue.specs.{Stored.{IsStored, IsStoredSet, ArePrintable}, Text.{set_line, catalogue_lines, text_of}}
+use Rattle.mon_catalogue.proofs.{Back.{lines_spell}, Blanks.{both}, Bytes.{lines_of_text}, Printable.{catalogue_lines_show}}
+use Rattle.deck_syntax.specs.{Laws.{deck_lines, deck_over}, Decks.{Asked, Stopped}, Spelling.{AreBlank, SpellsAccounts, SpellsStream, IsDeck}}
 use Rattle.deck_syntax.proofs.Spelled.{blank_is_line}
-use Rattle.std.specs.Option.{unwrap_or}
+use Rattle.deck_lines.specs.CardLines.{IsLineWithin}
 
 -- ---- how long the lines of a catalogue are
 

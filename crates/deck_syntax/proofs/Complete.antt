@@ -1,55 +1,30 @@
 -- Lines that are a good deck are computed to be that deck.
 use Rattle.std.proofs.Common.{◌≡◌, ℕ, suc, ◌+◌, ◌≤◌, ◌==◌, nat_lt, Bool, true, false, not, ◌&&◌, if◌then◌else◌, List, [], ◌∷◌, ◌++◌, length, Option, None, Some, is_some, Ok, refl, sym, ap, subst, ◌∙◌, arith}
-use Rattle.std.specs.Prelude.{codes, unwrap_or}
-use Rattle.std.specs.List.{list_all, list_any, IsDistinct, AllByRecursion}
-use Rattle.std.specs.Prelude.{bytes_eq}
+use Rattle.std.specs.{Prelude.{codes, unwrap_or, bytes_eq}, List.{list_all, list_any, IsDistinct, AllByRecursion}, Option.{option_or}}
 use Rattle.std.proofs.lemmas.List.{append_assoc, append-nil, map-append}
 use borrow.Author.Tests.{ne_eqb, le-ltb, lt-ltb}
-use Rattle.mon_text.specs.Names.{is_name}
-use Rattle.mon_text.specs.Lines.{is_blank_line, words}
+use Rattle.mon_text.specs.{Names.{is_name}, Lines.{is_blank_line, words}}
 use Rattle.acl_text.specs.declared.text.AclText.TheVariants.{Short, Long}
-use Rattle.mon_access.specs.declared.account.Account.{Account}
-use Rattle.mon_access.specs.Accounts.{find_account, names_of, HaveDifferentNames}
-use Rattle.mon_catalogue.specs.declared.head.Head.{Head}
-use Rattle.mon_catalogue.specs.Head.{head_of}
-use Rattle.mon_catalogue.specs.declared.version.Version.{Version}
-use Rattle.mon_catalogue.specs.declared.mode.Mode.{Mode}
-use Rattle.mon_catalogue.specs.declared.mode.Mode.TheVariants.{Seq}
-use Rattle.mon_catalogue.specs.Sets.{Sets}
+use Rattle.mon_access.specs.{declared.account.Account.{Account}, Accounts.{find_account, names_of, HaveDifferentNames}}
+use Rattle.mon_catalogue.specs.{declared.head.Head.{Head}, Head.{head_of}, declared.version.Version.{Version}, declared.mode.Mode.{Mode}, Sets.{Sets}}
+use Rattle.mon_catalogue.specs.{declared.mode.Mode.TheVariants.{Seq}, Progress.{Progress, step, finished}, Text.{text_of}}
+use Rattle.mon_catalogue.proofs.{Blanks.{both}, Heads.{head_words}, Names.{none_before}, Steps.{refused_stays}, Whole.{text_read}}
+use Rattle.mon_catalogue.proofs.Shorthand.{after_lines, after_words}
 use Rattle.mon_catalogue.specs.Progress as progress
-use Rattle.mon_catalogue.specs.Progress.{Progress, step, finished}
-use Rattle.mon_catalogue.specs.Text.{text_of}
-use Rattle.mon_catalogue.proofs.Blanks.{both}
-use Rattle.mon_catalogue.proofs.Heads.{head_words}
-use Rattle.mon_catalogue.proofs.Names.{none_before}
-use Rattle.mon_catalogue.proofs.Steps.{refused_stays}
-use Rattle.mon_catalogue.proofs.Whole.{text_read}
-use Rattle.deck_lines.specs.declared.command.Command.{Command}
-use Rattle.deck_lines.specs.declared.command.Command.TheVariants as command
-use Rattle.deck_lines.specs.declared.card.Card.{Card}
-use Rattle.deck_lines.specs.declared.card.Card.TheVariants as card
+use Rattle.deck_lines.specs.{declared.command.Command.{Command}, declared.card.Card.{Card}, declared.turn.Turn.{Turn}, Cards.{card_among, is_card}}
 use Rattle.deck_lines.specs.declared.deck_error.DeckError.TheVariants.{BadName, BadCharacter, LineTooLong, BadCard, OutOfPlace, AccountTwice, TooManyGroups}
-use Rattle.deck_syntax.specs.declared.list.OpenList.{OpenList}
-use Rattle.deck_syntax.specs.declared.request.Request.TheVariants.{Nothing, Asks, OpensList}
-use Rattle.deck_syntax.specs.declared.job.OpenJob.{OpenJob}
-use Rattle.deck_lines.specs.declared.turn.Turn.{Turn}
-use Rattle.deck_lines.specs.Cards.{card_among, is_card}
-use Rattle.deck_syntax.specs.Decks.{Deck, Cards, Asked, Commands, Enters, Gives, Drains, Ending, Stopped}
-use Rattle.deck_lines.specs.Refusing.{unless, line_refusal, lone_card_refusal, is_dollar_line}
+use Rattle.deck_lines.specs.{Refusing.{unless, line_refusal, lone_card_refusal, is_dollar_line}, CardLines.{IsLineWithin, IsCard}}
+use Rattle.deck_lines.specs.declared.command.Command.TheVariants as command
+use Rattle.deck_lines.specs.declared.card.Card.TheVariants as card
+use Rattle.deck_syntax.specs.declared.{list.OpenList.{OpenList}, request.Request.TheVariants.{Nothing, Asks, OpensList}}
+use Rattle.deck_syntax.specs.{declared.job.OpenJob.{OpenJob}, Decks.{Deck, Cards, Asked, Commands, Enters, Gives, Drains, Ending, Stopped}}
+use Rattle.deck_syntax.specs.{inner.Parts.{version_in, heading_refusal, text_refusal, opened_job}, JobSpelling.{SpellsJob, SpellsTurn}}
+use Rattle.deck_syntax.proofs.Spelled.{both_hold, line_taken, blank_is_line, not_blank, no_dollar_blank, no_dollar_names, lone_card_taken}
+use Rattle.deck_syntax.proofs.Shorthand.{goes_on, deck_goes_on}
+use Rattle.deck_syntax.proofs.{Headings.{version_is, heading_taken, mode_read}, JobReading.{all_read}, JobsSpelled.{job_fine, job_asked, turn_fine, turn_asked}}
 use Rattle.deck_syntax.specs.Requests.{opened, with_line, set_acl_of, stream_card_refusal, card_request, stream_refusal, request_on, end_refusal, list_text_refusal, is_list_character, acl_on}
 use Rattle.deck_syntax.specs.Sections.{opening_refusal, account_on, table_refusal, account_refusal, accounts_refusal, table_after, sets_of, ends_catalogue, catalogue_refusal, Closed, InList, InJob, asked_then, requested, stream_section, catalogue_section, accounts_section, opening_section, deck_of}
-use Rattle.deck_syntax.specs.inner.Parts.{version_in, heading_refusal, text_refusal}
-use Rattle.deck_lines.specs.CardLines.{IsLineWithin, IsCard}
 use Rattle.deck_syntax.specs.Spelling.{AreBlank, SpellsAccount, SpellsAccounts, NamesOn, SpellsCreation, SpellsShort, version_words, IsListLine, SpellsLong, SpellsCommand, SpellsAsked, SpellsStream, IsDeck}
-use Rattle.deck_syntax.specs.JobSpelling.{SpellsJob, SpellsTurn}
-use Rattle.deck_syntax.specs.inner.Parts.{opened_job}
-use Rattle.deck_syntax.proofs.Spelled.{both_hold, line_taken, blank_is_line, not_blank, no_dollar_blank, no_dollar_names, lone_card_taken}
-use Rattle.deck_syntax.proofs.Headings.{version_is, heading_taken, mode_read}
-use Rattle.deck_syntax.proofs.JobReading.{all_read}
-use Rattle.deck_syntax.proofs.JobsSpelled.{job_fine, job_asked, turn_fine, turn_asked}
-use Rattle.mon_catalogue.proofs.Shorthand.{after_lines, after_words}
-use Rattle.std.specs.Option.{option_or}
-use Rattle.deck_syntax.proofs.Shorthand.{goes_on, deck_goes_on}
 
 blank_taken : (line : List ℕ) → length line ≤ 200 → is_blank_line line ≡ true → line_refusal 200 line ≡ None
 blank_taken line short blank = line_taken 200 line (short, blank_is_line line blank)

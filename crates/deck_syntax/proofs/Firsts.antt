@@ -1,10 +1,7 @@
 -- The first line of bytes.
 use Rattle.std.proofs.Common.{◌≡◌, ℕ, ◌+◌, ◌-◌, ◌<◌, ◌==◌, false, cond, List, [], ◌∷◌, length, take, drop, Some, None, position, sym, ap, ◌∙◌, arith}
-use Rattle.std.specs.Str.Lines.{lines, strip_carriage_return}
-use Rattle.std.proofs.lemmas.Bool.Decides.{nat_tests}
-use Rattle.std.proofs.lemmas.List.{take_all, drop_all, length-drop}
-use Rattle.mon_text.proofs.Cutting.{cut_at, uncut, line_ends, last_line}
-use Rattle.mon_text.specs.Characters.{is_line_feed}
+use Rattle.std.{specs.Str.Lines.{lines, strip_carriage_return}, proofs.lemmas.Bool.Decides.{nat_tests}, proofs.lemmas.List.{take_all, drop_all, length-drop}}
+use Rattle.mon_text.{proofs.Cutting.{cut_at, uncut, line_ends, last_line}, specs.Characters.{is_line_feed}}
 
 -- it has a line end
 pub ended : (bytes line behind : List ℕ) (end : ℕ) → position is_line_feed bytes ≡ Some end → line ≡ strip_carriage_return (take end bytes) → behind ≡ drop (end + 1) bytes

@@ -1,28 +1,16 @@
 -- The words behind two cards: the version of a catalogue's text, and the mode of a new data set.
 use Rattle.std.proofs.Common.{◌≡◌, inl, inr, ℕ, suc, nat_eq, Bool, true, false, if◌then◌else◌, List, [], ◌∷◌, length, Option, None, Some, is_some, refl, sym, ap, ◌∙◌, arith, true≢false}
-use Rattle.std.specs.Prelude.{codes, unwrap_or, bytes_eq}
-use Rattle.std.specs.Cmp.Lexicographic.{pointwise}
+use Rattle.std.specs.{Prelude.{codes, unwrap_or, bytes_eq}, Cmp.Lexicographic.{pointwise}, Option.{option_or}}
 use Rattle.std.proofs.lemmas.Slice.Eq.{bytes_eq-Decides}
 use borrow.Author.Tests.{ne_eqb}
 use Rattle.mon_text.specs.Lines.{words}
-use Rattle.mon_catalogue.specs.declared.mode.Mode.{Mode}
-use Rattle.mon_catalogue.specs.declared.mode.Mode.TheVariants.{Seq, Append}
-use Rattle.mon_catalogue.specs.declared.version.Version.{Version}
-use Rattle.mon_catalogue.specs.declared.version.Version.TheVariants.{One, Two}
-use Rattle.mon_catalogue.specs.Modes.{mode_of, mode_word}
-use Rattle.mon_catalogue.proofs.Heads.{mode_reads}
-use Rattle.deck_lines.specs.declared.card.Card.{Card}
+use Rattle.mon_catalogue.specs.declared.{mode.Mode.{Mode}, mode.Mode.TheVariants.{Seq, Append}, version.Version.{Version}}
+use Rattle.mon_catalogue.{specs.declared.version.Version.TheVariants.{One, Two}, specs.Modes.{mode_of, mode_word}, proofs.Heads.{mode_reads}}
+use Rattle.deck_lines.specs.declared.{card.Card.{Card}, deck_error.DeckError.TheVariants.{UnknownCard, BadCard, OutOfPlace}}
+use Rattle.deck_lines.specs.{Cards.{card_among, is_card}, Refusing.{unless, due_card_refusal}, CardLines.{IsLineWithin, IsCard}}
 use Rattle.deck_lines.specs.declared.card.Card.TheVariants as card
-use Rattle.deck_lines.specs.declared.deck_error.DeckError.TheVariants.{UnknownCard, BadCard, OutOfPlace}
-use Rattle.deck_lines.specs.Cards.{card_among, is_card}
-use Rattle.deck_lines.specs.Refusing.{unless, due_card_refusal}
-use Rattle.deck_lines.specs.CardLines.{IsLineWithin, IsCard}
-use Rattle.deck_syntax.specs.Sections.{version_on}
-use Rattle.deck_syntax.specs.inner.Parts.{version_in, heading_refusal}
-use Rattle.deck_syntax.specs.Requests.{mode_on}
-use Rattle.deck_syntax.specs.Spelling.{version_words, AskForMode}
+use Rattle.deck_syntax.specs.{Sections.{version_on}, inner.Parts.{version_in, heading_refusal}, Requests.{mode_on}, Spelling.{version_words, AskForMode}}
 use Rattle.deck_syntax.proofs.Spelled.{neither, passes, found_is_due}
-use Rattle.std.specs.Option.{option_or}
 
 -- ---- the version
 

@@ -2,15 +2,10 @@
 use Rattle.std.proofs.Common.{◌≡◌, ℕ, List, [], ◌∷◌, Option, Some, refl}
 use Rattle.std.specs.Prelude.{codes}
 use Rattle.mon_text.specs.Lines.{words}
-use Rattle.deck_lines.specs.declared.deck_error.DeckError.{DeckError}
+use Rattle.deck_lines.specs.{declared.deck_error.DeckError.{DeckError}, Cards.{card_among}}
 use Rattle.deck_lines.specs.declared.deck_error.DeckError.TheVariants.{BadName, BadNumber, BadCard, UnknownCard, OutOfPlace}
-use Rattle.deck_syntax.specs.declared.job.OpenJob.{OpenJob}
-use Rattle.deck_lines.specs.Cards.{card_among}
-use Rattle.deck_syntax.specs.Decks.{Enters, Drains, Stopped}
-use Rattle.deck_syntax.specs.Jobs.{usual_limits}
-use Rattle.deck_syntax.specs.inner.Parts.{opened_job}
-use Rattle.deck_syntax.specs.Requests.{stream_card_refusal}
-use Rattle.deck_syntax.specs.Sections.{Closed, InJob, refused_on_line, stream_section, refused_early, opening_section}
+use Rattle.deck_syntax.specs.{declared.job.OpenJob.{OpenJob}, Decks.{Enters, Drains, Stopped}, Jobs.{usual_limits}, inner.Parts.{opened_job}}
+use Rattle.deck_syntax.specs.{Requests.{stream_card_refusal}, Sections.{Closed, InJob, refused_on_line, stream_section, refused_early, opening_section}}
 
 abbrev code_of : List ℕ → Option DeckError
 code_of card = stream_card_refusal (card_among (words card)) (words card)

@@ -1,25 +1,14 @@
 -- Lines where a job is open: as they are taken, and as they are spelled.
 use Rattle.std.proofs.Common.{◌≡◌, ℕ, suc, ◌==◌, Bool, true, false, cond, not, ◌&&◌, if◌then◌else◌, List, [], ◌∷◌, length, drop, filter, Option, None, Some, refl, sym, ap, subst, ◌∙◌, arith, true≢false}
-use Rattle.std.specs.List.{slice_split, onto_first}
-use Rattle.std.proofs.lemmas.List.Splits.{slice_split-cons_no, length-slice_split}
+use Rattle.std.{specs.List.{slice_split, onto_first}, proofs.lemmas.List.Splits.{slice_split-cons_no, length-slice_split}, specs.Option.{option_or}}
 use borrow.Author.Tests.{eqb-true, ne_eqb}
-use Rattle.mon_text.specs.Characters.{is_blank}
-use Rattle.mon_text.specs.Names.{is_name}
-use Rattle.mon_text.specs.Counts.{is_count}
-use Rattle.mon_text.specs.Lines.{is_nonempty, words}
-use Rattle.deck_syntax.specs.declared.job_deck.UnitCard.{UnitCard}
-use Rattle.deck_lines.specs.declared.deck_error.DeckError.TheVariants.{BadName, BadNumber, BadCard, OutOfPlace}
-use Rattle.deck_lines.specs.declared.card.Card.{Card}
-use Rattle.deck_lines.specs.declared.card.Card.TheVariants as card
-use Rattle.deck_syntax.specs.declared.job.OpenJob.{OpenJob}
-use Rattle.deck_lines.specs.Cards.{card_among, is_card, word_at}
-use Rattle.deck_lines.specs.Refusing.{unless, line_refusal, is_dollar_line}
-use Rattle.deck_lines.specs.CardLines.{IsLineWithin, IsCard}
+use Rattle.mon_text.specs.{Characters.{is_blank}, Names.{is_name}, Counts.{is_count}, Lines.{is_nonempty, words}}
+use Rattle.deck_syntax.specs.{declared.job_deck.UnitCard.{UnitCard}, declared.job.OpenJob.{OpenJob}, JobSpelling.{SpellsUnit, SpellsText}}
 use Rattle.deck_syntax.specs.Jobs.{is_job_card_line, unit_card_refusal, unit_on, job_card_refusal, job_line_refusal, ends_job, after_job_line}
-use Rattle.deck_syntax.specs.inner.Parts.{program_text, has_begun, with_unit, with_program_line}
-use Rattle.deck_syntax.specs.JobSpelling.{SpellsUnit, SpellsText}
-use Rattle.deck_syntax.proofs.Spelled.{both_hold, neither, passes, line_taken}
-use Rattle.std.specs.Option.{option_or}
+use Rattle.deck_syntax.{specs.inner.Parts.{program_text, has_begun, with_unit, with_program_line}, proofs.Spelled.{both_hold, neither, passes, line_taken}}
+use Rattle.deck_lines.specs.declared.{deck_error.DeckError.TheVariants.{BadName, BadNumber, BadCard, OutOfPlace}, card.Card.{Card}}
+use Rattle.deck_lines.specs.{Cards.{card_among, is_card, word_at}, Refusing.{unless, line_refusal, is_dollar_line}, CardLines.{IsLineWithin, IsCard}}
+use Rattle.deck_lines.specs.declared.card.Card.TheVariants as card
 
 -- ---- words
 

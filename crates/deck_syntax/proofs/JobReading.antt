@@ -4,22 +4,14 @@ use Rattle.std.proofs.lemmas.List.{append_assoc, append-nil}
 use borrow.Author.Tests.{ne_eqb}
 use Rattle.mon_text.specs.Lines.{words}
 use Rattle.mon_catalogue.proofs.Blanks.{both}
-use Rattle.deck_syntax.specs.declared.job_deck.UnitCard.{UnitCard}
-use Rattle.deck_lines.specs.declared.deck_error.DeckError.TheVariants.{BadCard, OutOfPlace}
-use Rattle.deck_lines.specs.declared.card.Card.{Card}
-use Rattle.deck_lines.specs.declared.card.Card.TheVariants as card
-use Rattle.deck_syntax.specs.declared.job.OpenJob.{OpenJob}
-use Rattle.deck_lines.specs.Cards.{card_among, is_card}
-use Rattle.deck_syntax.specs.Decks.{Cards, Enters}
-use Rattle.deck_lines.specs.Refusing.{unless, line_refusal, is_dollar_line}
-use Rattle.deck_lines.specs.CardLines.{IsLineWithin, IsCard}
+use Rattle.deck_syntax.specs.{declared.job_deck.UnitCard.{UnitCard}, declared.job.OpenJob.{OpenJob}, Decks.{Cards, Enters}}
 use Rattle.deck_syntax.specs.Jobs.{is_job_card_line, unit_card_refusal, unit_on, job_card_refusal, job_line_refusal, ends_job, after_job_line}
-use Rattle.deck_syntax.specs.inner.Parts.{program_text, has_begun, with_unit, with_program_line}
-use Rattle.deck_syntax.specs.Sections.{Closed, InJob, asked_then, stream_section}
-use Rattle.deck_syntax.specs.JobSpelling.{SpellsUnit, SpellsUnits, SpellsText, SpellsTexts}
-use Rattle.deck_syntax.proofs.Spelled.{neither, passes, taken_line, alone}
-use Rattle.deck_syntax.proofs.JobLines.{GoesOn, line_text, text_taken, unit_taken, end_taken, unit_spelled}
-use Rattle.deck_syntax.proofs.Shorthand.{goes_on}
+use Rattle.deck_syntax.specs.{inner.Parts.{program_text, has_begun, with_unit, with_program_line}, Sections.{Closed, InJob, asked_then, stream_section}}
+use Rattle.deck_syntax.{specs.JobSpelling.{SpellsUnit, SpellsUnits, SpellsText, SpellsTexts}, proofs.Spelled.{neither, passes, taken_line, alone}}
+use Rattle.deck_syntax.proofs.{JobLines.{GoesOn, line_text, text_taken, unit_taken, end_taken, unit_spelled}, Shorthand.{goes_on}}
+use Rattle.deck_lines.specs.{declared.deck_error.DeckError.TheVariants.{BadCard, OutOfPlace}, declared.card.Card.{Card}, Cards.{card_among, is_card}}
+use Rattle.deck_lines.specs.{Refusing.{unless, line_refusal, is_dollar_line}, CardLines.{IsLineWithin, IsCard}}
+use Rattle.deck_lines.specs.declared.card.Card.TheVariants as card
 
 -- a job with further unit cards, and with further lines
 abbrev pub with_units : OpenJob → List UnitCard → OpenJob

@@ -1,29 +1,16 @@
 -- The cards of jobs and of turns: they ask for what they spell, and spell what they ask for.
 use Rattle.std.proofs.Common.{◌≡◌, ℕ, suc, ◌==◌, nat_lt, Bool, true, ◌&&◌, List, [], ◌∷◌, ◌++◌, length, None, Some, refl, sym, ap, subst, ◌∙◌, arith}
-use Rattle.std.proofs.lemmas.List.{append_assoc}
+use Rattle.std.{proofs.lemmas.List.{append_assoc}, specs.Option.{option_or}}
 use borrow.Author.Tests.{lt-ltb}
-use Rattle.mon_text.specs.Names.{is_name}
-use Rattle.mon_text.specs.Counts.{is_count, value_of}
-use Rattle.mon_text.specs.Lines.{words}
+use Rattle.mon_text.specs.{Names.{is_name}, Counts.{is_count, value_of}, Lines.{words}}
 use Rattle.mon_catalogue.proofs.Blanks.{both}
 use Rattle.sno_cards.specs.declared.limits.Limits.{Limits}
 use Rattle.deck_lines.specs.declared.card.Card.TheVariants as card
-use Rattle.deck_lines.specs.declared.deck_error.DeckError.TheVariants.{BadName, BadNumber, BadCard}
-use Rattle.deck_syntax.specs.declared.job.OpenJob.{OpenJob}
-use Rattle.deck_lines.specs.declared.turn.Turn.{Turn}
-use Rattle.deck_lines.specs.Cards.{card_among}
-use Rattle.deck_lines.specs.CardLines.{IsLineWithin, IsCard}
-use Rattle.deck_lines.specs.Refusing.{unless}
-use Rattle.deck_syntax.specs.Jobs.{are_options, limits_refusal, job_refusal, job_on}
-use Rattle.deck_lines.specs.Turns.{is_within, turn_refusal}
-use Rattle.deck_syntax.specs.inner.Parts.{opened_job}
-use Rattle.deck_lines.specs.Turns.{turn_on}
-use Rattle.deck_syntax.specs.JobSpelling.{SpellsLimits, SpellsUnits, SpellsTexts, SpellsJob, SpellsTurn}
-use Rattle.deck_syntax.proofs.Spelled.{both_hold, neither, passes}
-use Rattle.deck_syntax.proofs.LimitsRead.{within_is, is_within_then, limits_read, limits_spelled}
-use Rattle.deck_syntax.proofs.JobLines.{three_words}
-use Rattle.deck_syntax.proofs.JobReading.{Job}
-use Rattle.std.specs.Option.{option_or}
+use Rattle.deck_lines.specs.{declared.deck_error.DeckError.TheVariants.{BadName, BadNumber, BadCard}, declared.turn.Turn.{Turn}, Cards.{card_among}}
+use Rattle.deck_lines.specs.{CardLines.{IsLineWithin, IsCard}, Refusing.{unless}, Turns.{is_within, turn_refusal, turn_on}}
+use Rattle.deck_syntax.specs.{declared.job.OpenJob.{OpenJob}, Jobs.{are_options, limits_refusal, job_refusal, job_on}, inner.Parts.{opened_job}}
+use Rattle.deck_syntax.{specs.JobSpelling.{SpellsLimits, SpellsUnits, SpellsTexts, SpellsJob, SpellsTurn}, proofs.Spelled.{both_hold, neither, passes}}
+use Rattle.deck_syntax.proofs.{LimitsRead.{within_is, is_within_then, limits_read, limits_spelled}, JobLines.{three_words}, JobReading.{Job}}
 
 -- ---- `$JOB`
 

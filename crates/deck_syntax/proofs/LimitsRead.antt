@@ -1,21 +1,13 @@
 -- Options and the limits that they set: as they are read, and as they are spelled.
 use Rattle.std.proofs.Common.{◌≡◌, inl, inr, ℕ, ◌≤◌, Bool, true, false, nat_eq, nat_le, ◌&&◌, ◌||◌, if◌then◌else◌, List, [], ◌∷◌, ◌++◌, drop, None, refl, sym, ap, subst, ◌∙◌, true≢false}
-use Rattle.std.specs.Prelude.{codes}
-use Rattle.std.proofs.lemmas.Bool.{le-leb, leb-true}
-use Rattle.std.proofs.lemmas.Bool.Decides.{Decides-eqb}
-use Rattle.std.proofs.lemmas.Slice.Eq.{starts_is}
+use Rattle.std.specs.{Prelude.{codes}, Option.{option_or}, List.{fold}}
+use Rattle.std.proofs.lemmas.{Bool.{le-leb, leb-true}, Bool.Decides.{Decides-eqb}, Slice.Eq.{starts_is}}
 use Rattle.mon_text.specs.Counts.{is_count, value_of}
 use Rattle.mon_catalogue.proofs.Blanks.{both}
-use Rattle.sno_cards.specs.declared.limits.Limits.{Limits}
-use Rattle.sno_cards.specs.Limits.{IsLimit}
-use Rattle.deck_lines.specs.declared.deck_error.DeckError.TheVariants.{BadNumber, BadCard}
-use Rattle.deck_lines.specs.Refusing.{unless}
+use Rattle.sno_cards.specs.{declared.limits.Limits.{Limits}, Limits.{IsLimit}}
+use Rattle.deck_lines.specs.{declared.deck_error.DeckError.TheVariants.{BadNumber, BadCard}, Refusing.{unless}, Turns.{is_within}}
 use Rattle.deck_syntax.specs.Jobs.{sets_statements, sets_steps, are_options, option_text, has_number, is_limit, limits_refusal, usual_limits, with_option}
-use Rattle.deck_lines.specs.Turns.{is_within}
-use Rattle.deck_syntax.specs.JobSpelling.{SpellsLimit, SpellsStatements, SpellsSteps, SpellsLimits}
-use Rattle.deck_syntax.proofs.Spelled.{both_hold, neither, passes}
-use Rattle.std.specs.Option.{option_or}
-use Rattle.std.specs.List.{fold}
+use Rattle.deck_syntax.{specs.JobSpelling.{SpellsLimit, SpellsStatements, SpellsSteps, SpellsLimits}, proofs.Spelled.{both_hold, neither, passes}}
 
 pub within_is : (most n : ℕ) → 1 ≤ n → n ≤ most → is_within most n ≡ true
 within_is most n low high = both_hold (nat_le 1 n) (nat_le n most) (le-leb 1 n low) (le-leb n most high)

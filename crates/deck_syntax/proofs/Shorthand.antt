@@ -1,10 +1,8 @@
 -- Parts of the definitions by names of their own.
-use Rattle.std.specs.Prelude.{ℕ, List, Option}
-use Rattle.std.specs.Option.{option_map_or}
+use Rattle.std.specs.{Prelude.{ℕ, List, Option}, Option.{option_map_or}}
 use Rattle.mon_access.specs.declared.account.Account.{Account}
 use Rattle.deck_lines.specs.declared.deck_error.DeckError.{DeckError}
-use Rattle.deck_syntax.specs.Decks.{Cards, Deck}
-use Rattle.deck_syntax.specs.Sections.{refused_on_line, refused_early}
+use Rattle.deck_syntax.specs.{Decks.{Cards, Deck}, Sections.{refused_on_line, refused_early}}
 
 -- the cards go on, unless line n is refused
 abbrev pub goes_on : Option DeckError → ℕ → Cards → Cards

@@ -1,61 +1,34 @@
 -- Lines of which a good deck is computed are that deck's.
 use Rattle.std.proofs.Common.{◌≡◌, ℕ, suc, ◌+◌, ◌≤◌, ◌==◌, nat_lt, Bool, true, false, not, ◌&&◌, if◌then◌else◌, List, [], ◌∷◌, ◌++◌, length, Option, None}
 use Rattle.std.proofs.Common.{Some, is_some, refl, sym, ap, subst, ◌∙◌, arith, true≢false}
-use Rattle.std.specs.Prelude.{codes, bytes_eq, unwrap_or}
-use Rattle.std.specs.List.{list_all, IsDistinct, AllByRecursion}
-use Rattle.std.specs.Cmp.Lexicographic.{nat_list_eq_equiv}
-use Rattle.std.proofs.lemmas.Bool.Decides.{nat_tests}
-use Rattle.std.proofs.lemmas.List.{append_assoc, append-nil, map-append}
-use Rattle.std.proofs.lemmas.Map.Keys.{IsDistinct-push}
-use borrow.Author.Tests.{ne_eqb}
-use Rattle.mon_text.specs.Names.{is_name}
-use Rattle.mon_text.specs.Lines.{is_blank_line, words}
-use Rattle.acl_text.specs.declared.text.AclText.TheVariants.{Short, Long}
-use Rattle.mon_access.specs.declared.account.Account.{Account}
-use Rattle.mon_access.specs.Accounts.{find_account, names_of, HaveDifferentNames}
-use Rattle.mon_catalogue.specs.declared.version.Version.{Version}
-use Rattle.mon_catalogue.specs.declared.mode.Mode.TheVariants.{Seq}
-use Rattle.mon_catalogue.specs.Progress as progress
-use Rattle.mon_catalogue.specs.Progress.{Progress, step, is_due, finished}
-use Rattle.mon_catalogue.specs.Text.{text_of}
-use Rattle.mon_catalogue.proofs.Blanks.{both}
-use Rattle.mon_catalogue.proofs.Whole.{text_spells}
-use Rattle.deck_lines.specs.declared.command.Command.TheVariants as command
-use Rattle.deck_lines.specs.declared.card.Card.{Card}
-use Rattle.deck_lines.specs.declared.card.Card.TheVariants as card
-use Rattle.deck_lines.specs.declared.deck_error.DeckError.{DeckError}
-use Rattle.deck_lines.specs.declared.deck_error.DeckError.TheVariants.{BadName, BadCharacter, LineTooLong, BadCard, OutOfPlace, AccountTwice, TooManyGroups, Truncated}
-use Rattle.deck_syntax.specs.declared.list.OpenList.{OpenList}
-use Rattle.deck_syntax.specs.declared.request.Request.TheVariants.{Nothing, Asks, OpensList}
-use Rattle.deck_syntax.specs.declared.job.OpenJob.{OpenJob}
-use Rattle.deck_lines.specs.Cards.{card_among, is_card, word_at}
-use Rattle.deck_syntax.specs.Decks.{Deck, Cards, Asked, Commands, Enters, Gives, Drains, Stopped, Refused}
-use Rattle.deck_lines.specs.Refusing.{unless, line_refusal, lone_card_refusal, is_dollar_line}
-use Rattle.deck_syntax.specs.Requests.{mode_on, opened, with_line, set_acl_of, two_names_refusal}
-use Rattle.deck_syntax.specs.inner.Parts.{creation_refusal, set_acl_refusal, catalog_refusal}
-use Rattle.deck_syntax.specs.Requests.{stream_card_refusal, card_request, stream_refusal, request_on, end_refusal, list_text_refusal, list_line_refusal}
-use Rattle.deck_syntax.specs.Requests.{is_list_character, acl_on}
-use Rattle.deck_syntax.specs.Sections.{opening_refusal, account_on, table_refusal, account_refusal}
-use Rattle.deck_syntax.specs.inner.Parts.{version_in, heading_refusal, words_refusal}
-use Rattle.deck_syntax.specs.Sections.{accounts_refusal, table_after, sets_of, ends_catalogue, catalogue_refusal, Open, Closed, InList, InJob}
-use Rattle.deck_syntax.specs.inner.Parts.{text_refusal}
-use Rattle.deck_syntax.specs.Sections.{asked_then, requested, refused_on_line, stream_section, refused_early, catalogue_section, accounts_section, opening_section}
-use Rattle.deck_syntax.specs.Sections.{deck_of}
-use Rattle.deck_lines.specs.CardLines.{IsLineWithin, IsCard}
-use Rattle.deck_syntax.specs.Spelling.{AreBlank, SpellsAccount, SpellsAccounts, NamesOn, SpellsCreation, SpellsShort, version_words, IsListLine, SpellsLong}
-use Rattle.deck_syntax.specs.Spelling.{SpellsAsked, SpellsStream, IsDeck}
-use Rattle.deck_syntax.specs.Jobs.{job_refusal, job_on, job_line_refusal, ends_job, after_job_line, unit_on}
-use Rattle.deck_syntax.specs.inner.Parts.{with_unit, with_program_line, program_text}
-use Rattle.deck_lines.specs.Turns.{turn_on}
-use Rattle.deck_syntax.specs.Laws.{ending_of}
-use Rattle.deck_syntax.proofs.Spelled.{both_hold, neither, passes, taken_line, alone, lone_card, found_is_due}
-use Rattle.deck_syntax.proofs.Headings.{heading_spelled, mode_spelled}
-use Rattle.deck_syntax.proofs.JobReading.{Took, Ends, Ties, Adds, took, Job, ended, tied, added}
-use Rattle.deck_syntax.proofs.JobsSpelled.{job_opened, job_spelled, turn_spelled}
-use Rattle.deck_syntax.proofs.Complete.{any_account}
-use Rattle.mon_catalogue.proofs.Shorthand.{after_lines}
+use Rattle.std.specs.{Prelude.{codes, bytes_eq, unwrap_or}, List.{list_all, IsDistinct, AllByRecursion}, Cmp.Lexicographic.{nat_list_eq_equiv}}
 use Rattle.std.specs.Option.{option_or}
-use Rattle.deck_syntax.proofs.Shorthand.{goes_on, deck_goes_on}
+use Rattle.std.proofs.lemmas.{Bool.Decides.{nat_tests}, List.{append_assoc, append-nil, map-append}, Map.Keys.{IsDistinct-push}}
+use borrow.Author.Tests.{ne_eqb}
+use Rattle.mon_text.specs.{Names.{is_name}, Lines.{is_blank_line, words}}
+use Rattle.acl_text.specs.declared.text.AclText.TheVariants.{Short, Long}
+use Rattle.mon_access.specs.{declared.account.Account.{Account}, Accounts.{find_account, names_of, HaveDifferentNames}}
+use Rattle.mon_catalogue.{specs.declared.version.Version.{Version}, specs.declared.mode.Mode.TheVariants.{Seq}, specs.Text.{text_of}, proofs.Blanks.{both}}
+use Rattle.mon_catalogue.{specs.Progress.{Progress, step, is_due, finished}, proofs.Whole.{text_spells}, proofs.Shorthand.{after_lines}}
+use Rattle.mon_catalogue.specs.Progress as progress
+use Rattle.deck_lines.specs.declared.command.Command.TheVariants as command
+use Rattle.deck_lines.specs.{declared.card.Card.{Card}, declared.deck_error.DeckError.{DeckError}, Cards.{card_among, is_card, word_at}, Turns.{turn_on}}
+use Rattle.deck_lines.specs.{Refusing.{unless, line_refusal, lone_card_refusal, is_dollar_line}, CardLines.{IsLineWithin, IsCard}}
+use Rattle.deck_lines.specs.declared.card.Card.TheVariants as card
+use Rattle.deck_lines.specs.declared.deck_error.DeckError.TheVariants.{BadName, BadCharacter, LineTooLong, BadCard, OutOfPlace, AccountTwice, TooManyGroups, Truncated}
+use Rattle.deck_syntax.specs.{declared.list.OpenList.{OpenList}, declared.request.Request.TheVariants.{Nothing, Asks, OpensList}, Laws.{ending_of}}
+use Rattle.deck_syntax.specs.{declared.job.OpenJob.{OpenJob}, Decks.{Deck, Cards, Asked, Commands, Enters, Gives, Drains, Stopped, Refused}}
+use Rattle.deck_syntax.specs.Requests.{mode_on, opened, with_line, set_acl_of, two_names_refusal, stream_card_refusal, card_request, stream_refusal, request_on}
+use Rattle.deck_syntax.specs.Requests.{end_refusal, list_text_refusal, list_line_refusal, is_list_character, acl_on}
+use Rattle.deck_syntax.specs.inner.Parts.{creation_refusal, set_acl_refusal, catalog_refusal, version_in, heading_refusal, words_refusal, text_refusal}
+use Rattle.deck_syntax.specs.Sections.{opening_refusal, account_on, table_refusal, account_refusal, accounts_refusal, table_after, sets_of, ends_catalogue}
+use Rattle.deck_syntax.specs.Spelling.{AreBlank, SpellsAccount, SpellsAccounts, NamesOn, SpellsCreation, SpellsShort, version_words, IsListLine, SpellsLong}
+use Rattle.deck_syntax.specs.{inner.Parts.{with_unit, with_program_line, program_text}, Sections.{catalogue_refusal, Open, Closed, InList, InJob, deck_of}}
+use Rattle.deck_syntax.specs.{Spelling.{SpellsAsked, SpellsStream, IsDeck}, Jobs.{job_refusal, job_on, job_line_refusal, ends_job, after_job_line, unit_on}}
+use Rattle.deck_syntax.proofs.{Spelled.{both_hold, neither, passes, taken_line, alone, lone_card, found_is_due}, Headings.{heading_spelled, mode_spelled}}
+use Rattle.deck_syntax.proofs.{JobReading.{Took, Ends, Ties, Adds, took, Job, ended, tied, added}, JobsSpelled.{job_opened, job_spelled, turn_spelled}}
+use Rattle.deck_syntax.proofs.{Complete.{any_account}, Shorthand.{goes_on, deck_goes_on}}
+use Rattle.deck_syntax.specs.Sections.{asked_then, requested, refused_on_line, stream_section, refused_early, catalogue_section, accounts_section, opening_section}
 
 -- ---- before the account table
 

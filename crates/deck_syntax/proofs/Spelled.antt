@@ -1,22 +1,14 @@
 -- Lines that are not refused, as the tests tell them and as the relations do.
 use Rattle.std.proofs.Common.{◌≡◌, ℕ, suc, ◌==◌, nat_lt, Bool, true, false, cond, not, ◌&&◌, if◌then◌else◌, List, [], ◌∷◌, length, filter, Option, None, Some, is_some, refl, sym, ap, subst, ◌∙◌, arith, true≢false}
-use Rattle.std.specs.List.{list_all, slice_split, onto_first}
-use Rattle.std.proofs.lemmas.Bool.Decides.{nat_tests}
-use Rattle.std.proofs.lemmas.List.Splits.{slice_split-cons_no, length-slice_split}
+use Rattle.std.specs.{List.{list_all, slice_split, onto_first}, Option.{option_or}}
+use Rattle.std.proofs.lemmas.{Bool.Decides.{nat_tests}, List.Splits.{slice_split-cons_no, length-slice_split}}
 use borrow.Author.Tests.{eqb-true, ne_eqb, le-ltb}
-use Rattle.mon_text.specs.Characters.{is_printable, is_blank}
-use Rattle.mon_text.specs.Names.{is_name}
-use Rattle.mon_text.specs.Lines.{is_line, is_blank_line, is_nonempty, words}
+use Rattle.mon_text.specs.{Characters.{is_printable, is_blank}, Names.{is_name}, Lines.{is_line, is_blank_line, is_nonempty, words}}
 use Rattle.mon_catalogue.proofs.Blanks.{both, no_words}
-use Rattle.deck_lines.specs.declared.card.Card.{Card}
-use Rattle.deck_lines.specs.declared.deck_error.DeckError.{DeckError}
+use Rattle.deck_lines.specs.{declared.card.Card.{Card}, declared.deck_error.DeckError.{DeckError}, Cards.{card_among, is_card}, contracts.card.Card.{the_type}}
 use Rattle.deck_lines.specs.declared.deck_error.DeckError.TheVariants.{BadCharacter, LineTooLong, UnknownCard, BadCard, OutOfPlace}
-use Rattle.deck_lines.specs.Cards.{card_among, is_card}
-use Rattle.deck_lines.specs.Refusing.{unless, line_refusal, lone_card_refusal, is_dollar_line}
-use Rattle.deck_lines.specs.CardLines.{IsLineWithin, IsCard}
-use Rattle.std.specs.Option.{option_or}
+use Rattle.deck_lines.specs.{Refusing.{unless, line_refusal, lone_card_refusal, is_dollar_line}, CardLines.{IsLineWithin, IsCard}}
 use denote.Enum.Bare.{sameb, same_true}
-use Rattle.deck_lines.specs.contracts.card.Card.{the_type}
 
 pub both_hold : (a b : Bool) → a ≡ true → b ≡ true → (a && b) ≡ true
 both_hold a b h k = rw (h, k) refl

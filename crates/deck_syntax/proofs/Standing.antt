@@ -4,21 +4,15 @@ use Rattle.mon_text.specs.Lines.{is_blank_line, words}
 use Rattle.mon_access.specs.declared.account.Account.{Account}
 use Rattle.mon_catalogue.specs.Progress as progress
 use Rattle.mon_catalogue.specs.Progress.{Progress, step}
-use Rattle.deck_lines.specs.declared.deck_error.DeckError.{DeckError}
-use Rattle.deck_lines.specs.declared.deck_error.DeckError.TheVariants.{Truncated}
-use Rattle.deck_syntax.specs.declared.request.Request.{Request}
-use Rattle.deck_syntax.specs.declared.request.Request.TheVariants as request
-use Rattle.deck_syntax.specs.Decks.{Deck, Cards, Commands, Enters, Gives, Drains, Stopped, Refused}
+use Rattle.deck_lines.specs.declared.deck_error.DeckError.{DeckError, TheVariants.{Truncated}}
 use Rattle.deck_lines.specs.Refusing.{line_refusal, is_dollar_line}
-use Rattle.deck_syntax.specs.Jobs.{job_line_refusal, ends_job, after_job_line}
+use Rattle.deck_syntax.specs.{declared.request.Request.{Request}, Decks.{Deck, Cards, Commands, Enters, Gives, Drains, Stopped, Refused}, Spelling.{IsDeck}}
+use Rattle.deck_syntax.specs.{Jobs.{job_line_refusal, ends_job, after_job_line}, inner.Parts.{version_in}, Laws.{ending_of, Decides}}
 use Rattle.deck_syntax.specs.Requests.{opened, with_line, set_acl_of, stream_refusal, request_on, list_line_refusal}
+use Rattle.deck_syntax.proofs.{Complete.{deck_taken}, Shorthand.{goes_on, deck_goes_on}}
+use Rattle.deck_syntax.specs.declared.request.Request.TheVariants as request
 use Rattle.deck_syntax.specs.Sections.{opening_refusal, accounts_refusal, table_after, sets_of, ends_catalogue, catalogue_refusal, Open, Closed, InList, InJob, asked_then, requested, refused_on_line, stream_section, refused_early, catalogue_section, accounts_section, opening_section, deck_of}
-use Rattle.deck_syntax.specs.inner.Parts.{version_in}
-use Rattle.deck_syntax.specs.Laws.{ending_of, Decides}
-use Rattle.deck_syntax.specs.Spelling.{IsDeck}
-use Rattle.deck_syntax.proofs.Complete.{deck_taken}
 use Rattle.std.specs.Option.{option_or}
-use Rattle.deck_syntax.proofs.Shorthand.{goes_on, deck_goes_on}
 
 -- what lines say from number n on, refused at line k: by a line that is there, or behind the last one
 abbrev Stands : {X : Type 0} → (List (List ℕ) → X) → ℕ → List (List ℕ) → ℕ → DeckError → Type 0

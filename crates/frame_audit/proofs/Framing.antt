@@ -1,12 +1,9 @@
 -- The audit of a text over the data sets whose names pass is that over all.
 use Rattle.std.proofs.Common.{◌≡◌, ℕ, zero, suc, ◌+◌, ◌≤◌, Bool, true, not, List, [], ◌∷◌, ◌++◌, length, Option, Some, None, refl, sym, ap, ◌∙◌, is_some, is_none, replicate, arith}
 use Rattle.mon_monitor.proofs.Common.{list_all, Account, find_account, account_of, answered, ordered_lines, SlotState, seat_at, first_free, job_loaded, Sets, Marks, never, is_done, has_free_slot, room, rounds, turns_left, lines_of_rounds, SystemState, first_system, with_scheduler, Event, Serve, Load, Give, Drain, happened, history, event_entries, load_entry, loading_lines, event_lines, audit}
-use Rattle.mon_monitor.specs.Audit.{audit_of}
-use Rattle.mon_monitor.proofs.Auditing.{audit_append, until_told, load_told}
+use Rattle.mon_monitor.{specs.Audit.{audit_of}, proofs.Auditing.{audit_append, until_told, load_told}}
 use Rattle.frame_laws.specs.Naming.{of_names, event_names, event_makes, speak_of, makes}
-use Rattle.frame_audit.specs.Laws.{AuditsAreFramed}
-use Rattle.frame_audit.proofs.Requesting.{commands_alike}
-use Rattle.frame_audit.proofs.Turning.{until_alike, rounds_alike}
+use Rattle.frame_audit.{specs.Laws.{AuditsAreFramed}, proofs.Requesting.{commands_alike}, proofs.Turning.{until_alike, rounds_alike}}
 use Rattle.frame_audit.proofs.Standing.{Stand, of_first, of_second, room_beside, after_event}
 
 module _ (p : List ℕ → Bool) (rest : Sets) where

@@ -3,8 +3,7 @@ use Rattle.std.proofs.Common.{◌≡◌, ℕ, Bool, true, false, List, [], ◌�
 use Rattle.std.specs.Prelude.{if◌then◌else◌, Option}
 use Rattle.mon_catalogue.specs.declared.data_set.DataSet.{DataSet}
 use Rattle.mon_monitor.proofs.Common.{Mark, Marks, mark_of, Past, nothing, turn_as, until, never, rounds, turns_left, rounds_until, is_done, has_free_slot, room, ends_by, turn_lines, lines_until, lines_of_rounds, SchedulerState, SystemState, first_system, with_scheduler, Event, Serve, Load, Give, Drain, Played, of_turns, of_loading, then_played, happened, played, history, event_entries, loading_lines, event_lines}
-use Rattle.mon_monitor.specs.Audit.{audit_of}
-use Rattle.mon_monitor.proofs.Auditing.{audit_append, until_told, load_told}
+use Rattle.mon_monitor.{specs.Audit.{audit_of}, proofs.Auditing.{audit_append, until_told, load_told}}
 use Rattle.mon_access.specs.declared.account.Account.{Account}
 use Rattle.parts_laws.specs.Threads.{Taken, TakesFirst}
 use Rattle.frame_audit.specs.Texts.{Telling, audited_texts}

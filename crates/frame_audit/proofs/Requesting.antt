@@ -1,21 +1,15 @@
 -- The lines of requests and of commands over all data sets, and over those alone whose names pass.
 use Rattle.std.proofs.Common.{◌≡◌, ℕ, zero, suc, ◌+◌, ◌≤◌, nat_eq, Bool, true, List, [], ◌∷◌, ◌++◌, length, Option, Some, None, refl, sym, ap, ◌∙◌, map, take, flat_map}
-use Rattle.std.specs.Prelude.{if◌then◌else◌}
-use Rattle.std.specs.Option.{option_and_then, option_map_or}
-use Rattle.std.specs.Cmp.Lexicographic.{pointwise, bytes_decides}
+use Rattle.std.specs.{Prelude.{if◌then◌else◌}, Option.{option_and_then, option_map_or}, Cmp.Lexicographic.{pointwise, bytes_decides}}
 use Rattle.deck_lines.specs.declared.command.Command.TheVariants.{List as Listing}
 use Rattle.mon_command.specs.Commanded.{Answer}
 use Rattle.mon_access.specs.Accounts.{find_account}
-use Rattle.audit.specs.declared.request.AuditedRequest.{AuditedRequest}
-use Rattle.audit.specs.declared.grants.Grant.{Grant}
-use Rattle.audit.specs.Requests.{asked_of, request_line, place_in, grant}
-use Rattle.audit.specs.Grants.{command_grant, known_grant, by_owner, to_see_list, by_entry}
-use Rattle.audit.specs.Catalogs.{shown_lines}
+use Rattle.audit.specs.{declared.request.AuditedRequest.{AuditedRequest}, declared.grants.Grant.{Grant}, Requests.{asked_of, request_line, place_in, grant}}
+use Rattle.audit.specs.{Grants.{command_grant, known_grant, by_owner, to_see_list, by_entry}, Catalogs.{shown_lines}}
 use Rattle.audit.specs.Commands.{said_line, spelled, ordered_lines}
 use Rattle.mon_monitor.proofs.Common.{Account, DataSet, Sets, find_set, Command, Create, Delete, SetAcl, ShowAcl, Catalog, account_of, said_of, answered, to_read, Request, Reach, serve, set_of, note_act, unit_of, UnitState, tie_at, Tie, looks_at_tied, Asking, Asks, Returns, asked_by, exchanged_line}
 use Rattle.frame_laws.specs.Naming.{of_names, command_names, command_makes}
-use Rattle.frame_laws.proofs.Filtering.{found}
-use Rattle.frame_laws.proofs.Serving.{Beside, ReachesStand, each, answered_beside}
+use Rattle.frame_laws.proofs.{Filtering.{found}, Serving.{Beside, ReachesStand, each, answered_beside}}
 
 -- ENTRIES THAT TELL THE SAME
 

@@ -1,14 +1,10 @@
 -- Events leave systems beside each other that stood so: one over all data sets, one over those alone whose names pass.
 use Rattle.std.proofs.Common.{◌≡◌, ℕ, zero, suc, ◌+◌, ◌≤◌, nat_eq, Bool, true, false, List, [], ◌∷◌, Option, Some, None, Result, refl, sym, ap, ◌∙◌, subst, inl, inr, ◌⊎◌, map, slice_get, is_some, is_none, replicate, arith}
-use Rattle.std.specs.Prelude.{◌||◌, option_map, if◌then◌else◌}
-use Rattle.std.proofs.lemmas.Option.{slice_get-map}
-use Rattle.std.specs.Cmp.Lexicographic.{pointwise, bytes_decides}
+use Rattle.std.{specs.Prelude.{◌||◌, option_map, if◌then◌else◌}, proofs.lemmas.Option.{slice_get-map}, specs.Cmp.Lexicographic.{pointwise, bytes_decides}}
 use Rattle.mon_monitor.proofs.Common.{range_with_len, list_all, Account, find_account, Program, statements_of, Set, Data, Spool, Untied, Target, Tie, UnitState, tied_to, first_tie, UnitCard, JobDeck, LoadError, SlotState, seat_at, first_free, first_units, with_ties, tied_by, program_in, load_refusal, slot_in, loaded_by, job_loaded, slot_by, Sets, Marks, never, is_done, has_free_slot, room, SystemState, Event, Serve, Load, Give, Drain, happened}
-use Rattle.mon_monitor.proofs.Requests.{get_after_set}
-use Rattle.mon_monitor.proofs.Turning.{seat_after}
+use Rattle.mon_monitor.proofs.{Requests.{get_after_set}, Turning.{seat_after}}
 use Rattle.frame_laws.specs.Naming.{tied_by_cards, event_names, event_makes}
-use Rattle.frame_laws.proofs.Serving.{Passes, answered_beside}
-use Rattle.frame_laws.proofs.Turning.{SchedulersStand, PastBeside, until_beside, rounds_beside}
+use Rattle.frame_laws.proofs.{Serving.{Passes, answered_beside}, Turning.{SchedulersStand, PastBeside, until_beside, rounds_beside}}
 
 pub record Stand (p : List ℕ → Bool) (rest : Sets) (n : ℕ) (whole alone : SystemState) : Type 0 where
   pub accounts : whole.accounts ≡ alone.accounts

@@ -3,8 +3,7 @@ use Rattle.std.proofs.Common.{◌≡◌, ℕ, Bool, true, false, List, [], ◌�
 use Rattle.std.specs.Prelude.{if◌then◌else◌, suc}
 use Rattle.mon_monitor.proofs.Common.{Sets, requests_in, Passed, counted_turn, turn_of, serve, passed_alike, SlotState, SchedulerState, seat_at, job_in, reached, Mark, Marks, mark_of, exchanges_at, may_break, turn_as, until, never, rounds, turns_left, ends_by, JobEnd, Turned, Empty, Goes, ended_line, asked_in, whole_turn, exchanged_line, exchanged_lines, end_lines, turn_lines, lines_until, lines_of_rounds}
 use Rattle.job_end.specs.declared.turned.Turned.TheVariants.{Ended}
-use Rattle.frame_laws.proofs.Serving.{Beside, Passes, ReachesStand, each}
-use Rattle.frame_laws.proofs.Turning.{SchedulersStand, PastBeside, until_beside}
+use Rattle.frame_laws.proofs.{Serving.{Beside, Passes, ReachesStand, each}, Turning.{SchedulersStand, PastBeside, until_beside}}
 use Rattle.frame_audit.proofs.Requesting.{all_told, first_told, requests_alike}
 
 -- the line of a job's end, by the ends of its turn

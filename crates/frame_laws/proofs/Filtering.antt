@@ -1,14 +1,9 @@
 -- What a look-up and a change are over the data sets whose names pass.
 use Rattle.std.proofs.Common.{◌≡◌, ℕ, suc, ◌<◌, ◌≤◌, nat_eq, Bool, true, false, cond, List, [], ◌∷◌, ◌++◌, length, Option, Some, None, refl, sym, ap, ◌∙◌, arith}
-use Rattle.std.specs.Prelude.{if◌then◌else◌, nat_le, is_some, filter}
-use Rattle.std.specs.Cmp.Lexicographic.{pointwise, bytes_decides}
-use Rattle.std.proofs.lemmas.List.{append-nil}
-use Rattle.std.proofs.lemmas.List.Elements.{filter-append}
-use Rattle.std.proofs.lemmas.Bool.Decides.{nat_tests}
-use Rattle.mon_catalogue.specs.declared.data_set.DataSet.{DataSet}
-use Rattle.mon_catalogue.specs.declared.catalogue.CreateError.TheVariants.{NameTaken, CatalogueFull}
-use Rattle.mon_catalogue.specs.Sets.{Sets, find_set, create_refusal}
-use Rattle.mon_catalogue.specs.Changes.{without_set, with_changed}
+use Rattle.std.specs.{Prelude.{if◌then◌else◌, nat_le, is_some, filter}, Cmp.Lexicographic.{pointwise, bytes_decides}}
+use Rattle.std.proofs.lemmas.{List.{append-nil}, List.Elements.{filter-append}, Bool.Decides.{nat_tests}}
+use Rattle.mon_catalogue.specs.declared.{data_set.DataSet.{DataSet}, catalogue.CreateError.TheVariants.{NameTaken, CatalogueFull}}
+use Rattle.mon_catalogue.specs.{Sets.{Sets, find_set, create_refusal}, Changes.{without_set, with_changed}}
 use Rattle.frame_laws.specs.Naming.{of_names}
 
 apart : {X : Type 0} (p : List ℕ → Bool) (a b : List ℕ) → pointwise nat_eq a b ≡ true → p a ≡ true → p b ≡ false → X

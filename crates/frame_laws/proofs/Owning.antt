@@ -1,18 +1,13 @@
 -- Which data sets there are, and whose, follows from the commands alone.
 use Rattle.std.proofs.Common.{◌≡◌, ℕ, nat_eq, nat_le, Bool, true, false, List, [], ◌∷◌, ◌++◌, length, Option, Some, None, Result, Ok, Err, option_map, refl, sym, ap, ◌∙◌, inl, inr, drop, is_some, replicate}
-use Rattle.std.specs.Prelude.{if◌then◌else◌}
-use Rattle.std.specs.Option.{option_map_or}
-use Rattle.std.specs.Map.{lookup, remove_entry}
-use Rattle.std.specs.Cmp.Lexicographic.{pointwise}
-use Rattle.std.proofs.lemmas.List.{length-map, map-append}
-use Rattle.std.proofs.lemmas.Map.Made.{lookup-map_values}
+use Rattle.std.specs.{Prelude.{if◌then◌else◌}, Option.{option_map_or}, Map.{lookup, remove_entry}, Cmp.Lexicographic.{pointwise}}
+use Rattle.std.proofs.lemmas.{List.{length-map, map-append}, Map.Made.{lookup-map_values}}
 use Rattle.mon_acl.specs.declared.entries.Entry.{Entry}
 use Rattle.deck_lines.specs.declared.command.Command.TheVariants.{List as Listing}
 use Rattle.mon_catalogue.specs.Changes.{with_changed}
 use Rattle.mon_unit.proofs.Runs.{run_keeps, run_cut_keeps}
 use Rattle.mon_monitor.proofs.Common.{Account, find_account, is_owner, AclError, AclText, list_of_text, Mode, DataSet, Change, recorded, NameTaken, CatalogueFull, Sets, find_set, create_refusal, without_set, listed, Reason, NotOwner, new_set, owner_denial_of, removed_unless, created_unless, acl_set_unless, given, Command, Create, Delete, SetAcl, ShowAcl, Catalog, account_of, answered, served, served_if_known, Request, Reach, serve, set_of, effect, changed_at, looked, turn_of, SlotState, SchedulerState, job_in, reached, Mark, Marks, mark_of, exchanges_at, may_break, ran_as, turn_as, turn_as_by, broken_by, Past, until, never, rounds, turns_left, rounds_until, is_done, has_free_slot, either_way, until_stops, until_goes, SystemState, first_system, Event, Serve, Load, Give, Drain, happened, played}
-use Rattle.frame_laws.specs.Owners.{Owners, owners_of, owners_by, owners_behind, owners_after}
-use Rattle.frame_laws.specs.Laws.{NamesAreKnown}
+use Rattle.frame_laws.specs.{Owners.{Owners, owners_of, owners_by, owners_behind, owners_after}, Laws.{NamesAreKnown}}
 
 -- WHAT CHANGES NO OWNER
 

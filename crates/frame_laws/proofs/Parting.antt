@@ -1,37 +1,19 @@
 -- Texts run in parts: their names stay apart, and are those that their commands tell.
 use Rattle.std.proofs.Common.{◌≡◌, ℕ, ◌+◌, ◌≤◌, nat_eq, nat_le, Bool, true, false, cond, List, [], ◌∷◌, ◌++◌, length, Option, Some, None, refl, sym, ap, ◌∙◌, subst, is_some, arith}
-use Rattle.std.specs.Prelude.{if◌then◌else◌}
-use Rattle.std.specs.Option.{option_map_or}
-use Rattle.std.specs.List.{AllByRecursion, IsDistinct}
-use Rattle.std.specs.Map.{keys_of, lookup, remove_entry}
-use Rattle.std.specs.Cmp.Lexicographic.{pointwise, bytes_decides, nat_list_eq_equiv}
-use Rattle.std.proofs.lemmas.List.{length-append}
-use Rattle.std.proofs.lemmas.Map.Keys.{IsDistinct-head, IsDistinct-tail, IsDistinct-cons, IsDistinct-push}
-use Rattle.std.proofs.lemmas.Map.Made.{is_some-lookup, keys_of-map_values}
-use Rattle.mon_access.specs.declared.account.Account.{Account}
-use Rattle.mon_access.specs.Accounts.{find_account}
-use Rattle.mon_access.specs.Matches.{is_owner}
-use Rattle.mon_catalogue.specs.declared.data_set.DataSet.{DataSet}
-use Rattle.mon_catalogue.specs.Sets.{Sets}
-use Rattle.deck_lines.specs.declared.command.Command.{Command}
+use Rattle.std.specs.{Prelude.{if◌then◌else◌}, Option.{option_map_or}, List.{AllByRecursion, IsDistinct}, Map.{keys_of, lookup, remove_entry}}
+use Rattle.std.{specs.Cmp.Lexicographic.{pointwise, bytes_decides, nat_list_eq_equiv}, proofs.lemmas.Map.Made.{is_some-lookup, keys_of-map_values}}
+use Rattle.std.proofs.lemmas.{List.{length-append}, Map.Keys.{IsDistinct-head, IsDistinct-tail, IsDistinct-cons, IsDistinct-push}}
+use Rattle.mon_access.specs.{declared.account.Account.{Account}, Accounts.{find_account}, Matches.{is_owner}}
+use Rattle.mon_catalogue.specs.{declared.data_set.DataSet.{DataSet}, Sets.{Sets}}
+use Rattle.deck_lines.specs.{declared.command.Command.{Command}, Commands.{account_of}}
 use Rattle.deck_lines.specs.declared.command.Command.TheVariants.{Create, Delete, SetAcl, ShowAcl, List as Listing, Catalog}
-use Rattle.deck_lines.specs.Commands.{account_of}
 use Rattle.scheduler.specs.Marks.{Marks}
-use Rattle.mon_monitor.specs.SystemStates.{first_system}
-use Rattle.mon_monitor.specs.Events.{Event, Serve, Load, Give, Drain}
-use Rattle.mon_monitor.specs.Played.{played}
-use Rattle.parts_laws.specs.Picking.{Decides, picked}
-use Rattle.parts_laws.specs.Runs.{IsLocal, Numbered}
-use Rattle.parts_laws.specs.Threads.{machine_of, threaded}
-use Rattle.parts_laws.specs.Laws.{part_threaded}
+use Rattle.mon_monitor.specs.{SystemStates.{first_system}, Events.{Event, Serve, Load, Give, Drain}, Played.{played}}
+use Rattle.parts_laws.specs.{Picking.{Decides, picked}, Runs.{IsLocal, Numbered}, Threads.{machine_of, threaded}, Laws.{part_threaded}}
 use Rattle.parts_laws.proofs.Threading.{marks_picked}
-use Rattle.frame_laws.specs.Naming.{command_makes, event_makes, makes}
-use Rattle.frame_laws.specs.Owners.{Owners, owners_of, owners_by, owners_behind, owners_after}
-use Rattle.frame_laws.specs.Texts.{texts_of, owners_behind_texts}
-use Rattle.frame_laws.specs.Laws.{NamesStayApart, TextsRunInParts}
-use Rattle.frame_laws.proofs.Playing.{texts_are_framed}
-use Rattle.frame_laws.proofs.Owning.{names_are_known, as_many}
-use Rattle.frame_laws.proofs.Marking.{takes_first}
+use Rattle.frame_laws.specs.{Naming.{command_makes, event_makes, makes}, Owners.{Owners, owners_of, owners_by, owners_behind, owners_after}}
+use Rattle.frame_laws.specs.{Texts.{texts_of, owners_behind_texts}, Laws.{NamesStayApart, TextsRunInParts}}
+use Rattle.frame_laws.proofs.{Playing.{texts_are_framed}, Owning.{names_are_known, as_many}, Marking.{takes_first}}
 
 abbrev Apart : Owners → Type 0
 Apart owners = IsDistinct (pointwise nat_eq) (keys_of owners)

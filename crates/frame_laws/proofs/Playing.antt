@@ -1,18 +1,11 @@
 -- Events over all data sets, and over those alone whose names pass.
 use Rattle.std.proofs.Common.{◌≡◌, ℕ, zero, suc, ◌+◌, ◌≤◌, nat_eq, Bool, true, false, not, List, [], ◌∷◌, ◌++◌, length, Option, Some, None, Result, refl, sym, ap, ◌∙◌, subst, inl, inr, ◌⊎◌, map, slice_get, is_some, is_none, replicate, arith}
-use Rattle.std.specs.Prelude.{◌||◌, option_map, if◌then◌else◌}
-use Rattle.std.proofs.lemmas.Option.{slice_get-map}
-use Rattle.std.specs.Cmp.Lexicographic.{pointwise, bytes_decides}
+use Rattle.std.{specs.Prelude.{◌||◌, option_map, if◌then◌else◌}, proofs.lemmas.Option.{slice_get-map}, specs.Cmp.Lexicographic.{pointwise, bytes_decides}}
 use Rattle.mon_monitor.proofs.Common.{range_with_len, list_all, Account, find_account, statements_of, Program, Set, Data, Spool, Untied, Target, Tie, UnitState, tied_to, first_tie, UnitCard, JobDeck, JobEnd, LoadError, SlotState, seat_at, first_free, first_units, with_ties, tied_by, program_in, load_refusal, slot_in, loaded_by, job_loaded, slot_by, Sets, Marks, Past, never, is_done, has_free_slot, room, SystemState, first_system, with_scheduler, Event, Serve, Load, Give, Drain, Printout, OfCommand, Played, of_turns, of_loading, then_played, happened, played, printed}
 use Rattle.mon_command.specs.Commanded.{Answer}
-use Rattle.mon_monitor.proofs.Parts.{of_load, and_played}
-use Rattle.mon_monitor.proofs.Shorthand.{of_ends}
-use Rattle.mon_monitor.proofs.Requests.{get_after_set}
-use Rattle.mon_monitor.proofs.Turning.{seat_after}
-use Rattle.frame_laws.specs.Naming.{of_names, tied_by_cards, event_names, event_makes, speak_of, makes}
-use Rattle.frame_laws.specs.Laws.{TextsAreFramed}
-use Rattle.frame_laws.proofs.Serving.{Passes, answered_beside}
-use Rattle.frame_laws.proofs.Turning.{SchedulersStand, PastBeside, until_beside, rounds_beside}
+use Rattle.mon_monitor.proofs.{Parts.{of_load, and_played}, Shorthand.{of_ends}, Requests.{get_after_set}, Turning.{seat_after}}
+use Rattle.frame_laws.specs.{Naming.{of_names, tied_by_cards, event_names, event_makes, speak_of, makes}, Laws.{TextsAreFramed}}
+use Rattle.frame_laws.proofs.{Serving.{Passes, answered_beside}, Turning.{SchedulersStand, PastBeside, until_beside, rounds_beside}}
 
 record PlayedAlike (p : List ℕ → Bool) (rest : Sets) (n : ℕ) (whole alone : Played) : Type 0 where
   pub printouts : whole.printouts ≡ alone.printouts

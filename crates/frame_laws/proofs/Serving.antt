@@ -1,7 +1,6 @@
 -- One command and one request over all data sets, and over those alone whose names pass.
 use Rattle.std.proofs.Common.{◌≡◌, ℕ, ◌+◌, ◌<◌, ◌≤◌, nat_eq, Bool, true, not, List, [], ◌∷◌, ◌++◌, length, Option, Some, None, Result, Ok, Err, refl, sym, ap, ◌∙◌, subst, arith, slice_get}
-use Rattle.std.specs.Prelude.{if◌then◌else◌}
-use Rattle.std.specs.Cmp.Lexicographic.{pointwise, bytes_decides}
+use Rattle.std.specs.{Prelude.{if◌then◌else◌}, Cmp.Lexicographic.{pointwise, bytes_decides}}
 use Rattle.mon_acl.specs.declared.entries.Entry.{Entry}
 use Rattle.deck_lines.specs.declared.command.Command.TheVariants.{List as Listing}
 use Rattle.mon_command.specs.Commanded.{Answer}

@@ -1,12 +1,8 @@
 -- Each request has an answer that fits: it may be denied.
 use Rattle.std.proofs.Common.{IsTrue, refl}
-use Rattle.interaction.specs.declared.answer.Reason.TheVariants.{NoUnit}
-use Rattle.interaction.specs.declared.request.Act.{Act}
-use Rattle.interaction.specs.declared.request.Act.TheVariants.{Read, Write, Endfile, Rewind}
-use Rattle.interaction.specs.declared.request.Request.{Request}
-use Rattle.interaction.specs.declared.answer.Answer.{Answer}
+use Rattle.interaction.specs.{declared.answer.Reason.TheVariants.{NoUnit}, declared.request.Act.{Act}, declared.request.Request.{Request}, Fitting.{fits, Fits}}
+use Rattle.interaction.specs.declared.{request.Act.TheVariants.{Read, Write, Endfile, Rewind}, answer.Answer.{Answer}}
 use Rattle.interaction.specs.declared.answer.Answer.TheVariants.{Denied}
-use Rattle.interaction.specs.Fitting.{fits, Fits}
 
 may_be_denied : (act : Act) → IsTrue (fits act (Denied NoUnit))
 may_be_denied (Read u) = refl

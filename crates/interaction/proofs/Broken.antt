@@ -1,9 +1,6 @@
 -- What an interaction was broken off after begins a whole run of it.
 use Rattle.std.proofs.Common.{List, [], ◌∷◌, ◌++◌, refl, inl, inr}
-use Rattle.interaction.specs.Interactions.{Interaction, Returns, Asks}
-use Rattle.interaction.specs.Exchanges.{Exchange, IsTrace}
-use Rattle.interaction.specs.Holding.{StopsIn}
-use Rattle.interaction.specs.InteractionLaws.{StoppedAt}
+use Rattle.interaction.specs.{Interactions.{Interaction, Returns, Asks}, Exchanges.{Exchange, IsTrace}, Holding.{StopsIn}, InteractionLaws.{StoppedAt}}
 use Rattle.interaction.proofs.InteractionRuns.{goes_on}
 
 module _ {S Q R : Type 0} (meaning : S → Q → R → S → Type 0) (fits : Q → R → Type 0) (broken : S → Q → S → Type 0)

@@ -1,15 +1,10 @@
 -- Interactions with the statements that begin in them, and without.
 use Rattle.std.proofs.Common.{◌≡◌, ℕ, ◌+◌, List, [], ◌∷◌, Result, Ok, Err, refl, ap, sym, ◌∙◌, subst, inl, inr, arith}
 use Rattle.std.specs.Result.{IsErr}
-use Rattle.interaction.specs.Interactions.{Interaction, Returns, Asks, ◌>>=◌}
-use Rattle.interaction.specs.Exchanges.{AnswersAll}
-use Rattle.interaction.specs.Endings.{EndsIn}
+use Rattle.interaction.specs.{Interactions.{Interaction, Returns, Asks, ◌>>=◌}, Exchanges.{AnswersAll}, Endings.{EndsIn}, declared.request.Request.{Request}}
+use Rattle.interaction.specs.{declared.answer.Answer.{Answer}, declared.answer.Answer.TheVariants.{Done}, Asking.{Asking, Exchange}}
 use Rattle.interaction.proofs.Binds.{funext}
-use Rattle.interaction.specs.declared.request.Request.{Request}
-use Rattle.interaction.specs.declared.answer.Answer.{Answer}
-use Rattle.interaction.specs.declared.answer.Answer.TheVariants.{Done}
 use Rattle.interaction.specs.Asking as asking
-use Rattle.interaction.specs.Asking.{Asking, Exchange}
 use Rattle.interaction.specs.Counting.{Moment, Beginning, Requesting, Counted, Passed, lifted, plain, requests_in, statements_in, IsTrace, IsTracePrefix, counting, RunsTo, StopsIn, Executes}
 
 abbrev pub with_request : Moment → Answer → List Exchange → List Exchange

@@ -1,9 +1,7 @@
 -- What an interaction ends with, and interactions that go on alike from there: for definitions that recurse on a number, where a larger
 -- number than is needed changes nothing.
 use Rattle.std.proofs.Common.{◌≡◌, ap}
-use Rattle.interaction.specs.Interactions.{Interaction, Returns, Asks, ◌>>=◌}
-use Rattle.interaction.specs.Endings.{EndsIn}
-use Rattle.interaction.proofs.Binds.{funext}
+use Rattle.interaction.{specs.Interactions.{Interaction, Returns, Asks, ◌>>=◌}, specs.Endings.{EndsIn}, proofs.Binds.{funext}}
 
 pub ends_in_then : {Q R A B : Type 0} (P : A → Type 0) (P' : B → Type 0) (t : Interaction Q R A) (k : A → Interaction Q R B)
     → EndsIn P t → ((a : A) → P a → EndsIn P' (k a)) → EndsIn P' (t >>= k)

@@ -1,7 +1,6 @@
 -- How interactions are joined, and what follows from how one is held.
 use Rattle.std.proofs.Common.{List, [], ◌∷◌, refl, sym, inl, inr, subst}
-use Rattle.interaction.specs.Interactions.{Interaction, Returns, Asks, ◌>>=◌}
-use Rattle.interaction.specs.Exchanges.{Exchange, IsTrace, IsTracePrefix, AnswersAll}
+use Rattle.interaction.specs.{Interactions.{Interaction, Returns, Asks, ◌>>=◌}, Exchanges.{Exchange, IsTrace, IsTracePrefix, AnswersAll}}
 use Rattle.interaction.specs.Holding.{RunsTo, StopsIn}
 
 module _ {S Q R : Type 0} (meaning : S → Q → R → S → Type 0) (fits : Q → R → Type 0) where

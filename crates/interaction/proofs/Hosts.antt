@@ -1,10 +1,7 @@
 -- An interaction whose questions are put as interactions with someone else.
 use Rattle.std.proofs.Common.{ap, sym, inl, inr, subst}
-use Rattle.interaction.specs.Interactions.{Interaction, Returns, Asks, interpreted}
-use Rattle.interaction.specs.Holding.{RunsTo, StopsIn}
-use Rattle.interaction.specs.Endings.{EndsIn}
-use Rattle.interaction.proofs.Enough.{ends_in_then}
-use Rattle.interaction.proofs.Held.{held_then, cut_here, cut_first, cut_then}
+use Rattle.interaction.specs.{Interactions.{Interaction, Returns, Asks, interpreted}, Holding.{RunsTo, StopsIn}, Endings.{EndsIn}}
+use Rattle.interaction.proofs.{Enough.{ends_in_then}, Held.{held_then, cut_here, cut_first, cut_then}}
 
 -- a host that puts each question as an interaction with someone else holds the whole as one such interaction
 module _ {H K S P T Q R : Type 0} (meaning : S → Q → R → S → Type 0) (fits : Q → R → Type 0)

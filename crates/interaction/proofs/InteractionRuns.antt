@@ -1,7 +1,6 @@
 -- Runs of interactions: what follows from the replies, and from who gives them.
 use Rattle.std.proofs.Common.{◌≡◌, List, [], ◌∷◌, ◌++◌, refl, ap, sym, ◌∙◌, subst}
-use Rattle.interaction.specs.Interactions.{Interaction, Returns, Asks}
-use Rattle.interaction.specs.Exchanges.{Exchange, replies, IsTrace, IsTracePrefix, AnswersAll}
+use Rattle.interaction.specs.{Interactions.{Interaction, Returns, Asks}, Exchanges.{Exchange, replies, IsTrace, IsTracePrefix, AnswersAll}}
 
 -- two interactions with the same replies
 pub alike : {Q R A : Type 0} (fits : Q → R → Type 0) (t : Interaction Q R A) (x y : List (Exchange Q R)) (b c : A)

@@ -1,7 +1,6 @@
 -- Interactions one after the other, as they are told.
 use Rattle.std.proofs.Common.{List, [], ◌∷◌, ◌++◌, subst}
-use Rattle.interaction.specs.Interactions.{Interaction, Returns, Asks, ◌>>=◌}
-use Rattle.interaction.specs.Exchanges.{Exchange, IsTrace, IsTracePrefix}
+use Rattle.interaction.specs.{Interactions.{Interaction, Returns, Asks, ◌>>=◌}, Exchanges.{Exchange, IsTrace, IsTracePrefix}}
 
 module _ {Q R A B : Type 0} (fits : Q → R → Type 0) where
   pub tells_then : (t : Interaction Q R A) (k : A → Interaction Q R B) (x y : List (Exchange Q R)) (a : A) (b : B)

@@ -1,15 +1,13 @@
 -- What worked jobs print, byte by byte.
 use Rattle.std.proofs.Common.{◌≡◌, [], ◌∷◌, ◌++◌, None, refl}
-use Rattle.std.specs.Prelude.{codes}
-use Rattle.std.specs.Fmt.{digits}
+use Rattle.std.specs.{Prelude.{codes}, Fmt.{digits}}
 use Rattle.sno_text.specs.declared.fault.Fault.TheVariants.{Arithmetic}
 use Rattle.sno_cards.specs.declared.refusal.SyntaxCode.TheVariants.{BadConstant}
 use Rattle.sno_run.specs.declared.ending.Ending.TheVariants.{Normal, MatchLimit, Fault}
 use Rattle.mon_acl.specs.declared.entries.Tag.TheVariants.{Mask}
 use Rattle.interaction.specs.declared.answer.Reason.TheVariants.{By, NoSet, NoUnit}
-use Rattle.mon_unit.specs.declared.note.NoteAct.TheVariants.{Read, Write}
+use Rattle.mon_unit.specs.declared.note.{NoteAct.TheVariants.{Read, Write}, Why.TheVariants.{Denied, Full}}
 use Rattle.mon_unit.specs.declared.note.NoteTarget.TheVariants as target
-use Rattle.mon_unit.specs.declared.note.Why.TheVariants.{Denied, Full}
 use Rattle.unit_ties.specs.declared.unit_error.UnitError.TheVariants.{UnitTwice}
 use Rattle.load_refusal.specs.declared.load_error.LoadError.TheVariants.{NoAccount, Cards, Syntax}
 use Rattle.job_end.specs.Printouts.{printout, refusal_text}

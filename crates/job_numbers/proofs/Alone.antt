@@ -4,22 +4,13 @@ use Rattle.std.specs.Prelude.{if◌then◌else◌, ◌==◌, filter}
 use Rattle.mon_access.specs.declared.account.Account.{Account}
 use Rattle.mon_catalogue.specs.Sets.{Sets}
 use Rattle.scheduler.specs.Marks.{Marks}
-use Rattle.mon_monitor.specs.SystemStates.{first_system}
-use Rattle.mon_monitor.specs.Events.{Event}
-use Rattle.mon_monitor.specs.Printed.{given_back}
-use Rattle.mon_monitor.specs.Printouts.{Printout, printouts_text}
+use Rattle.mon_monitor.specs.{SystemStates.{first_system}, Events.{Event}, Printed.{given_back}, Printouts.{Printout, printouts_text}}
 use Rattle.deck_run.specs.Laws.{jobs_in}
 use Rattle.preflight.specs.Rounds.{Handed}
-use Rattle.parts_laws.specs.Picking.{part_of}
-use Rattle.parts_laws.specs.Runs.{Numbered, Split}
-use Rattle.parts_laws.specs.Threads.{threaded}
+use Rattle.parts_laws.specs.{Picking.{part_of}, Runs.{Numbered, Split}, Threads.{threaded}}
 use Rattle.frame_audit.specs.Texts.{audited_texts}
-use Rattle.rounds.specs.Delivery.{text_events, text_played, delivered}
-use Rattle.rounds.specs.InParts.{numbered}
-use Rattle.rounds.specs.Laws.{EachItsPart}
-use Rattle.job_numbers.specs.Numbers.{printout_as}
-use Rattle.job_numbers.specs.Laws.{IsTheSame}
-use Rattle.job_numbers.specs.Alone.{texts_of_part, jobs_before, jobs_ahead, printed_behind, PartsRunAlone}
+use Rattle.rounds.specs.{Delivery.{text_events, text_played, delivered}, InParts.{numbered}, Laws.{EachItsPart}}
+use Rattle.job_numbers.specs.{Numbers.{printout_as}, Laws.{IsTheSame}, Alone.{texts_of_part, jobs_before, jobs_ahead, printed_behind, PartsRunAlone}}
 use Rattle.job_numbers.proofs.Telling.{numbers_are_told, texts_are_numbered}
 
 module _ (slots : ℕ) (accounts : List Account) where

@@ -1,8 +1,6 @@
 -- Seats whose jobs have other numbers.
 use Rattle.std.proofs.Common.{◌≡◌, ℕ, zero, suc, ◌+◌, ◌-◌, List, [], ◌∷◌, Option, Some, None, refl, ap, ◌∙◌, map, option_map, slice_get, slice_set, replicate, is_none}
-use Rattle.std.specs.List.{list_all, position_from}
-use Rattle.std.specs.Option.{option_flatten}
-use Rattle.std.proofs.lemmas.Option.{slice_get-map}
+use Rattle.std.{specs.List.{list_all, position_from}, specs.Option.{option_flatten}, proofs.lemmas.Option.{slice_get-map}}
 use Rattle.mon_monitor.proofs.Common.{SlotState, SchedulerState, seat_at, with_seat, first_free, turns_left, statements_begun, SystemState}
 
 abbrev pub slot_as : (ℕ → ℕ) → SlotState → SlotState

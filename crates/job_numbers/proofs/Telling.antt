@@ -3,17 +3,11 @@ use Rattle.std.proofs.Common.{◌≡◌, ℕ, suc, ◌+◌, List, [], ◌∷◌,
 use Rattle.mon_access.specs.declared.account.Account.{Account}
 use Rattle.mon_catalogue.specs.Sets.{Sets}
 use Rattle.scheduler.specs.States.{SlotState}
-use Rattle.mon_monitor.specs.SystemStates.{SystemState, first_system}
-use Rattle.mon_monitor.specs.Events.{Event, Serve, Load, Give, Drain}
-use Rattle.mon_monitor.specs.Played.{Played, played}
-use Rattle.mon_monitor.specs.History.{history}
-use Rattle.deck_syntax.specs.Decks.{Asked, Commands, Enters, Gives, Drains}
-use Rattle.deck_syntax.specs.Jobs.{job_deck_of}
+use Rattle.mon_monitor.specs.{SystemStates.{SystemState, first_system}, Events.{Event, Serve, Load, Give, Drain}, Played.{Played, played}, History.{history}}
+use Rattle.deck_syntax.specs.{Decks.{Asked, Commands, Enters, Gives, Drains}, Jobs.{job_deck_of}}
 use Rattle.deck_driver.specs.RunStates.{events_of}
-use Rattle.job_numbers.specs.Numbers.{event_as}
-use Rattle.job_numbers.specs.Laws.{NumbersAreTold, TextsAreNumbered}
-use Rattle.job_numbers.proofs.Seating.{system_as, empty_as}
-use Rattle.job_numbers.proofs.Playing.{all_as, history_as}
+use Rattle.job_numbers.specs.{Numbers.{event_as}, Laws.{NumbersAreTold, TextsAreNumbered}}
+use Rattle.job_numbers.proofs.{Seating.{system_as, empty_as}, Playing.{all_as, history_as}}
 
 first_as : (f : ℕ → ℕ) (slots : ℕ) (accounts : List Account) (sets : Sets) → system_as f (first_system slots accounts sets) ≡ first_system slots accounts sets
 first_as f slots accounts sets =

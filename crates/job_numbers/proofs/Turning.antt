@@ -1,7 +1,6 @@
 -- Turns of jobs that have other numbers.
 use Rattle.std.proofs.Common.{◌≡◌, ℕ, Bool, true, false, List, [], ◌∷◌, ◌++◌, length, Option, Some, None, refl, sym, ap, ap₂, ◌∙◌, map, take, drop}
-use Rattle.std.specs.Prelude.{if◌then◌else◌}
-use Rattle.std.proofs.lemmas.List.{map-append, length-map, take-map}
+use Rattle.std.{specs.Prelude.{if◌then◌else◌}, proofs.lemmas.List.{map-append, length-map, take-map}}
 use Rattle.mon_monitor.proofs.Common.{Account, Asking, Asks, Returns, Reach, serve, Step, Sets, SlotState, SchedulerState, with_seat, job_in, ran_as, after_turn, job_end, seat, told, turn_of, reached, Mark, Marks, mark_of, exchanges_at, may_break, turn_as, turn_as_by, Past, nothing, until, rounds, turns_left, rounds_until, ends_by, JobEnd, Turned, Empty, Goes, Exchanged, asked_by, asked_in, whole_turn, Asked, end_entry, turn_entries, entries_until, entries_of_rounds, Entry}
 use Rattle.sno_run.specs.declared.ending.Step.TheVariants as step
 use Rattle.job_end.specs.declared.turned.Turned.TheVariants.{Ended}

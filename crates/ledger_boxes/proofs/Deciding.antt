@@ -1,21 +1,12 @@
 -- What is decided of a claimed file, by what was seen of it.
 use Rattle.std.proofs.Common.{◌≡◌, ℕ, Bool, true, false, nat_lt, List, [], ◌∷◌, ◌++◌, length, Option, Some, None, if◌then◌else◌, refl, sym, ap, subst, ◌∙◌, append_assoc, Result, Ok, Err, IfOk}
-use Rattle.std.specs.Prelude.{is_none}
-use Rattle.std.specs.Option.{option_map_or}
-use Rattle.std.specs.Str.Lines.{lines}
+use Rattle.std.specs.{Prelude.{is_none}, Option.{option_map_or}, Str.Lines.{lines}}
 use Rattle.deck_syntax.specs.Decks.{Asked}
-use Rattle.preflight.specs.declared.submission.Submission.{Submission}
-use Rattle.preflight.specs.declared.why.Refusal.{Refusal}
-use Rattle.preflight.specs.Examined.{IsSubmission, IsFirstWrong, Verdict, Admits, Refuses as RefusesLine, IsVerdict}
-use Rattle.preflight.specs.Submissions.{IsAdmitted, lines_of}
-use Rattle.preflight.specs.Tallies.{tally_of}
-use Rattle.preflight.proofs.FirstWrong.{one_verdict}
-use Rattle.site_plan.specs.declared.reason.Reason.{Reason}
+use Rattle.preflight.specs.{declared.submission.Submission.{Submission}, declared.why.Refusal.{Refusal}, Submissions.{IsAdmitted, lines_of}, Tallies.{tally_of}}
+use Rattle.preflight.{specs.Examined.{IsSubmission, IsFirstWrong, Verdict, Admits, Refuses as RefusesLine, IsVerdict}, proofs.FirstWrong.{one_verdict}}
+use Rattle.site_plan.specs.{declared.reason.Reason.{Reason}, Tables.{ended_lines}}
 use Rattle.site_plan.specs.declared.reason.Reason.TheVariants as reason
-use Rattle.site_plan.specs.Tables.{ended_lines}
-use Rattle.ledger_boxes.specs.declared.look.Look.{Look}
-use Rattle.ledger_boxes.specs.declared.admission.Owner.{Owner}
-use Rattle.ledger_boxes.specs.Sights.{Sight, Looked, Held}
+use Rattle.ledger_boxes.specs.{declared.look.Look.{Look}, declared.admission.Owner.{Owner}, Sights.{Sight, Looked, Held}}
 use Rattle.ledger_boxes.specs.Admission.{Decided, why_unread, text_for, refused, weighed_text, decided_by, decided_on, decision, IsSaidOf, IsDecidedOn, DecidesBy}
 
 -- what holds where there is an answer

@@ -1,19 +1,12 @@
 -- A file is taken exactly where it is one of its user alone, within the limit, of whole cards of his account, and light enough.
 use Rattle.std.proofs.Common.{◌≡◌, ◌≤◌, ◌<◌, ℕ, Bool, true, false, not, nat_lt, List, [], ◌∷◌, length, Option, Some, None, if◌then◌else◌, refl, sym, ap, ◌∙◌, subst, true≢false, arith}
-use Rattle.std.specs.Option.{option_map_or}
-use Rattle.std.specs.Str.Lines.{lines}
-use Rattle.std.proofs.lemmas.Bool.Decides.{nat_tests}
+use Rattle.std.{specs.Option.{option_map_or}, specs.Str.Lines.{lines}, proofs.lemmas.Bool.Decides.{nat_tests}}
 use Rattle.deck_syntax.specs.Decks.{Asked}
-use Rattle.preflight.specs.declared.tally.Tally.{Tally}
-use Rattle.preflight.specs.Examined.{IsSubmission, Verdict, Admits, Refuses as RefusesLine, IsVerdict}
-use Rattle.preflight.specs.Laws.{OneVerdict}
+use Rattle.preflight.specs.{declared.tally.Tally.{Tally}, Examined.{IsSubmission, Verdict, Admits, Refuses as RefusesLine, IsVerdict}, Laws.{OneVerdict}}
 use Rattle.preflight.specs.Tallies.{tally_of}
-use Rattle.site_plan.specs.declared.reason.Reason.{Reason}
+use Rattle.site_plan.specs.{declared.reason.Reason.{Reason}, Tables.{ended_lines}, Weighing.{weighed}}
 use Rattle.site_plan.specs.declared.reason.Reason.TheVariants as reason
-use Rattle.site_plan.specs.Tables.{ended_lines}
-use Rattle.site_plan.specs.Weighing.{weighed}
-use Rattle.ledger_boxes.specs.declared.look.Look.{Look}
-use Rattle.ledger_boxes.specs.declared.admission.Owner.{Owner}
+use Rattle.ledger_boxes.specs.declared.{look.Look.{Look}, admission.Owner.{Owner}}
 use Rattle.ledger_boxes.specs.Admission.{Decided, Takes, Refuses, is_own, why_unread, text_for, refused, weighed_text, decided_by, decided_on, decision, IsSaidOf, IsTaken, TakesExactly}
 
 -- ---- what is taken is not refused

@@ -1,11 +1,8 @@
 -- Names that were met, one by one.
 use Rattle.std.proofs.Common.{◌≡◌, ℕ, ◌+◌, Bool, true, false, List, [], ◌∷◌, ◌++◌, map, length, filter, cond, Option, Some, None, option_map, if◌then◌else◌, refl, sym, ap, ◌∙◌, append_assoc, inl, inr, arith}
 use Rattle.std.specs.List.{fold}
-use Rattle.ledger_turns.specs.Names.{kept_with, first_names}
-use Rattle.ledger_turns.proofs.Sorting.{keeps_first}
-use Rattle.ledger_boxes.specs.declared.look.Entry.{Entry}
-use Rattle.ledger_boxes.specs.Sights.{Named, Sight, Met, seen_entry}
-use Rattle.ledger_boxes.specs.Listing.{is_due, due_names, kept_due, met, ListsFrom}
+use Rattle.ledger_turns.{specs.Names.{kept_with, first_names}, proofs.Sorting.{keeps_first}}
+use Rattle.ledger_boxes.specs.{declared.look.Entry.{Entry}, Sights.{Named, Sight, Met, seen_entry}, Listing.{is_due, due_names, kept_due, met, ListsFrom}}
 
 -- what is kept of those that were met so far
 abbrev pub kept_of : ℕ → List (List ℕ) → List Named → List (List ℕ)

@@ -1,14 +1,10 @@
 -- A checkpoint that is opened, and the changes behind it, come to what all changes come to.
 use Rattle.std.proofs.Common.{◌≡◌, ◌⊎◌, inl, inr, ℕ, List, [], ◌∷◌, ◌++◌, Option, Some, None, refl, sym, ap, ◌∙◌, subst}
 use Rattle.std.specs.Option.{option_and_then}
-use Rattle.ledger_text.specs.Text.{ReadsBack, Collide}
-use Rattle.ledger_text.specs.Digests.{digest_of}
-use Rattle.ledger_index.specs.Index.{Index}
-use Rattle.ledger_index.specs.Laws.{OpensOne}
+use Rattle.ledger_text.specs.{Text.{ReadsBack, Collide}, Digests.{digest_of}}
+use Rattle.ledger_index.specs.{Index.{Index}, Laws.{OpensOne}}
 use Rattle.ledger_sets.specs.Applying.{Site, no_site, with_sets, with_jobs, tabled, after_change, after_changes}
-use Rattle.ledger_checkpoint.specs.Checkpoints.{head_for, index_for, site_behind}
-use Rattle.ledger_checkpoint.specs.Picking.{AreRead}
-use Rattle.ledger_checkpoint.specs.Laws.{AllAreRead, StateIsBack, GoesOn, OpensTheSame}
+use Rattle.ledger_checkpoint.specs.{Checkpoints.{head_for, index_for, site_behind}, Picking.{AreRead}, Laws.{AllAreRead, StateIsBack, GoesOn, OpensTheSame}}
 
 pub state_is_back : ReadsBack → StateIsBack
 state_is_back back count last course site short =

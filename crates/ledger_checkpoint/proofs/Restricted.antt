@@ -1,31 +1,17 @@
 -- What is read of some entries is the catalogue of their names.
 use Rattle.std.proofs.Common.{◌≡◌, ◌⊎◌, inl, inr, ℕ, ◌+◌, ◌≤◌, nat_eq, Bool, true, false, List, [], ◌∷◌, ◌++◌, length, map, take, drop, Result, Ok, refl, sym, ap, ◌∙◌, subst, append_assoc, arith}
-use Rattle.std.specs.Prelude.{if◌then◌else◌, bytes_eq}
-use Rattle.std.specs.List.{AllByRecursion}
-use Rattle.std.specs.Cmp.Lexicographic.{pointwise}
-use Rattle.std.specs.Str.Lines.{lines}
-use Rattle.std.proofs.Math.Seq.{drop-append_seam, take-append_seam}
-use Rattle.std.proofs.lemmas.List.{length-append}
-use Rattle.std.proofs.lemmas.Map.Made.{IsDistinct-keys_filter}
+use Rattle.std.specs.{Prelude.{if◌then◌else◌, bytes_eq}, List.{AllByRecursion}, Cmp.Lexicographic.{pointwise}, Str.Lines.{lines}}
+use Rattle.std.proofs.{Math.Seq.{drop-append_seam, take-append_seam}, lemmas.List.{length-append}, lemmas.Map.Made.{IsDistinct-keys_filter}}
 use Rattle.std.proofs.lemmas.Slice.Eq.{bytes_eq-Decides}
-use Rattle.mon_text.specs.Lines.{IsLine}
-use Rattle.mon_text.specs.declared.stop.Stop.{Stop}
+use Rattle.mon_text.specs.{Lines.{IsLine}, declared.stop.Stop.{Stop}}
 use Rattle.acl_text.specs.Printing.{short_form}
-use Rattle.mon_catalogue.specs.declared.version.Version.TheVariants.{Two}
-use Rattle.mon_catalogue.specs.declared.data_set.DataSet.{DataSet}
-use Rattle.mon_catalogue.specs.declared.loading.CatalogueError.{CatalogueError}
-use Rattle.mon_catalogue.specs.Sets.{Sets}
-use Rattle.mon_catalogue.specs.Reading.{catalogue_of}
-use Rattle.mon_catalogue.specs.Stored.{IsStoredSet, IsStored, ArePrintable}
+use Rattle.mon_catalogue.specs.{declared.version.Version.TheVariants.{Two}, declared.data_set.DataSet.{DataSet}, Sets.{Sets}, Reading.{catalogue_of}}
+use Rattle.mon_catalogue.specs.{declared.loading.CatalogueError.{CatalogueError}, Stored.{IsStoredSet, IsStored, ArePrintable}}
 use Rattle.mon_catalogue.specs.Text.{set_line, set_lines, text_of, catalogue_lines}
-use Rattle.mon_catalogue.proofs.Back.{catalogue_reads_back}
-use Rattle.mon_catalogue.proofs.Bytes.{lines_of_text}
-use Rattle.mon_catalogue.proofs.Printable.{catalogue_lines_show}
-use Rattle.ledger_text.specs.Text.{Collide}
-use Rattle.ledger_text.specs.Digests.{digest_of}
+use Rattle.mon_catalogue.proofs.{Back.{catalogue_reads_back}, Bytes.{lines_of_text}, Printable.{catalogue_lines_show}}
+use Rattle.ledger_text.specs.{Text.{Collide}, Digests.{digest_of}}
 use Rattle.ledger_index.specs.Index.{Entry}
-use Rattle.ledger_checkpoint.specs.Checkpoints.{entry_at, entries_from, lines_text}
-use Rattle.ledger_checkpoint.specs.Picking.{picked, of_names, head_of, AreTexts, spelled, AreRead}
+use Rattle.ledger_checkpoint.specs.{Checkpoints.{entry_at, entries_from, lines_text}, Picking.{picked, of_names, head_of, AreTexts, spelled, AreRead}}
 use Rattle.ledger_checkpoint.specs.Laws.{PickedAreRead, AllAreRead, OwnAreRead, HasItsPiece, PiecesStand}
 
 -- ---- one data set

@@ -1,13 +1,10 @@
 -- One data set more is written.
 use Rattle.std.proofs.Common.{◌≡◌, ℕ, ◌+◌, ◌≤◌, List, [], ◌∷◌, ◌++◌, length, drop, Some, slice_get, sym, ap, ◌∙◌, append_assoc}
 use Rattle.std.proofs.lemmas.List.{drop_all, length-append}
-use Rattle.mon_catalogue.specs.declared.data_set.DataSet.{DataSet}
-use Rattle.mon_catalogue.specs.Sets.{Sets}
-use Rattle.mon_catalogue.specs.Text.{text_of}
+use Rattle.mon_catalogue.specs.{declared.data_set.DataSet.{DataSet}, Sets.{Sets}, Text.{text_of}}
 use Rattle.ledger_index.specs.Index.{entry_text}
 use Rattle.ledger_sets.proofs.Walking.{at_place}
-use Rattle.ledger_checkpoint.specs.Checkpoints.{entry_at, entries_from, lines_text}
-use Rattle.ledger_checkpoint.specs.Writing.{entry_texts}
+use Rattle.ledger_checkpoint.specs.{Checkpoints.{entry_at, entries_from, lines_text}, Writing.{entry_texts}}
 
 module _ (sets : Sets) (place : ℕ) (named : List ℕ × DataSet) (was is : List ℕ) (stood : Some named ≡ slice_get sets place)
     (more : is ≡ was ++ text_of named.1.records) where

@@ -1,17 +1,11 @@
 -- Whatever texts are taken for the entries that are left: with those so far they are texts for all.
 use Rattle.std.proofs.Common.{◌≡◌, ℕ, ◌+◌, ◌-◌, ◌<◌, ◌≤◌, List, [], ◌∷◌, ◌++◌, length, take, drop, get_or, Ok, refl, sym, ap, ◌∙◌, subst, arith}
-use Rattle.std.specs.List.{fold}
-use Rattle.std.specs.Str.Lines.{lines}
-use Rattle.std.proofs.lemmas.List.{drop_more, drop_all, take_all, length-drop}
-use Rattle.std.proofs.lemmas.List.Sums.{fold-append}
-use Rattle.mon_catalogue.specs.declared.version.Version.TheVariants.{Two}
-use Rattle.mon_catalogue.specs.Progress.{Progress, SetDue, step, finished}
-use Rattle.mon_catalogue.specs.Sets.{Sets}
+use Rattle.std.specs.{List.{fold}, Str.Lines.{lines}}
+use Rattle.std.proofs.lemmas.List.{drop_more, drop_all, take_all, length-drop, Sums.{fold-append}}
+use Rattle.mon_catalogue.specs.{declared.version.Version.TheVariants.{Two}, Progress.{Progress, SetDue, step, finished}, Sets.{Sets}}
 use Rattle.ledger_text.specs.Digests.{digest_of}
-use Rattle.ledger_index.specs.declared.index.Entry.{Entry as CodeEntry}
-use Rattle.ledger_index.specs.Index.{Entry, seen_entry, seen_entries}
-use Rattle.ledger_checkpoint.specs.Picking.{head_of, AreTexts, spelled, AreRead}
-use Rattle.ledger_checkpoint.specs.inner.Taking.{TakesSet}
+use Rattle.ledger_index.specs.{declared.index.Entry.{Entry as CodeEntry}, Index.{Entry, seen_entry, seen_entries}}
+use Rattle.ledger_checkpoint.specs.{Picking.{head_of, AreTexts, spelled, AreRead}, inner.Taking.{TakesSet}}
 
 pub record ComesTo (all left : List Entry) (start at : Progress) (behind : List (List ℕ)) : Type 0 where
   pub texts : List (List ℕ)

@@ -1,10 +1,8 @@
 -- What the calls that are left come to, the last of them first.
 use Rattle.std.proofs.Common.{◌≡◌, ◌<◌, ◌≤◌, ℕ, zero, suc, ◌+◌, ◌-◌, List, [], ◌∷◌, ◌++◌, length, take, map, get_or, refl, sym, ap, ◌∙◌, subst, arith}
 use Rattle.std.proofs.lemmas.List.{map-append, take_more}
-use Rattle.ledger_disk.specs.declared.name.Name.{Name}
-use Rattle.ledger_disk.specs.declared.memory.Entry.{Entry}
+use Rattle.ledger_disk.specs.{declared.name.Name.{Name}, declared.memory.Entry.{Entry}, Memory.{entry_call}}
 use Rattle.ledger_disk.specs.Disks.{Disk, Which, Call, after, after_all, found_in, empty, which_after, which_behind, none_there}
-use Rattle.ledger_disk.specs.Memory.{entry_call}
 
 after_both : (xs ys : List Call) (disk : Disk) → after_all (xs ++ ys) disk ≡ after_all ys (after_all xs disk)
 after_both [] ys disk = refl

@@ -1,15 +1,10 @@
 -- What is printed of an index is read as itself.
 use Rattle.std.proofs.Common.{◌≡◌, ℕ, ◌<◌, ◌^◌, List, [], ◌∷◌, map, Option, Some, None, option_map, refl, ap, ◌∙◌, arith}
-use Rattle.std.specs.Prelude.{decimal, codes}
-use Rattle.std.specs.Option.{option_and_then}
-use Rattle.std.specs.List.{AllByRecursion}
-use Rattle.ledger_text.specs.Text.{ReadsBack as TextsReadBack, AreShort}
-use Rattle.ledger_text.specs.Records.{Said, Gone, count_of, short_of, numbers_of, timed, ReadsRecords}
-use Rattle.ledger_index.specs.declared.index.Span.{Span}
+use Rattle.std.specs.{Prelude.{decimal, codes}, Option.{option_and_then}, List.{AllByRecursion}}
+use Rattle.ledger_text.specs.{Text.{ReadsBack as TextsReadBack, AreShort}, Records.{Said, Gone, count_of, short_of, numbers_of, timed, ReadsRecords}}
+use Rattle.ledger_index.specs.{declared.index.Span.{Span}, Laws.{IsSmallEntry, ReadsBack}, Course.{IsSmallNumbered, IsSmallList, CourseReadsBack}}
 use Rattle.ledger_index.specs.Index.{Entry, Head, entry_fields, entry_text, head_fields, head_text, index_fields, span_of, span_in, entry_with, entry_in, entry_of, and_entries, entries_of, head_with, head_in, head_of, with_entries, index_in}
-use Rattle.ledger_index.specs.Laws.{IsSmallEntry, ReadsBack}
 use Rattle.ledger_index.specs.Course.{numbered_text, list_text, course_fields, numbered_as, numbered_in, numbered_of, and_list, list_in, list_of, course_with, course_in}
-use Rattle.ledger_index.specs.Course.{IsSmallNumbered, IsSmallList, CourseReadsBack}
 
 module _ (texts_back : TextsReadBack) (reads_records : ReadsRecords) where
   number_back : (n : ℕ) → n < 2 ^ 63 → count_of (decimal n) ≡ Some n

@@ -1,9 +1,7 @@
 -- What is read so far stands before what is left.
 use Rattle.std.proofs.Common.{◌≡◌, ℕ, ◌+◌, ◌<◌, List, [], ◌∷◌, ◌++◌, length, map, drop, get_or, Bor, Option, Some, None, option_map, refl, sym, ap, ◌∙◌, append_assoc}
-use Rattle.std.specs.Option.{option_and_then}
-use Rattle.std.proofs.lemmas.List.{drop_more, map-append}
-use Rattle.ledger_index.specs.declared.course.Numbered.{Numbered as CodeNumbered}
-use Rattle.ledger_index.specs.Index.{Entry}
+use Rattle.std.{specs.Option.{option_and_then}, proofs.lemmas.List.{drop_more, map-append}}
+use Rattle.ledger_index.specs.{declared.course.Numbered.{Numbered as CodeNumbered}, Index.{Entry}}
 use Rattle.ledger_index.specs.Course.{seen_numbered, seen_list, numbered_of, and_list, list_in}
 
 -- ---- entries of an index

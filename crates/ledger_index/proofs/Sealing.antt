@@ -1,15 +1,10 @@
 -- Only the index is opened whose digest the ledger has.
 use Rattle.std.proofs.Common.{◌≡◌, ◌⊎◌, inl, inr, ℕ, Bool, true, false, List, Option, Some, None, Result, Ok, Err, refl, sym, ap, ◌∙◌, arith}
-use Rattle.std.specs.Prelude.{◌≢◌, ◌==◌, ◌&&◌, bytes_eq, if◌then◌else◌}
-use Rattle.std.specs.Option.{option_and_then, option_map_or}
-use Rattle.std.proofs.lemmas.Bool.Decides.{nat_tests}
-use Rattle.std.proofs.lemmas.Slice.Eq.{bytes_eq-Decides}
-use Rattle.ledger_text.specs.Text.{RefusesParts as TextsRefuseParts, Collide}
-use Rattle.ledger_text.specs.Digests.{digest_of}
-use Rattle.ledger_index.specs.declared.fault.CheckpointFault.{CheckpointFault}
-use Rattle.ledger_index.specs.declared.fault.CheckpointFault.TheVariants.{Changed, Broken, OtherChain}
-use Rattle.ledger_index.specs.Index.{Index, index_fields, index_text, index_in, index_of}
-use Rattle.ledger_index.specs.Opening.{Sealed, of_chain}
+use Rattle.std.specs.{Prelude.{◌≢◌, ◌==◌, ◌&&◌, bytes_eq, if◌then◌else◌}, Option.{option_and_then, option_map_or}}
+use Rattle.std.proofs.lemmas.{Bool.Decides.{nat_tests}, Slice.Eq.{bytes_eq-Decides}}
+use Rattle.ledger_text.specs.{Text.{RefusesParts as TextsRefuseParts, Collide}, Digests.{digest_of}}
+use Rattle.ledger_index.specs.declared.fault.CheckpointFault.{CheckpointFault, TheVariants.{Changed, Broken, OtherChain}}
+use Rattle.ledger_index.specs.{Index.{Index, index_fields, index_text, index_in, index_of}, Opening.{Sealed, of_chain}}
 use Rattle.ledger_index.specs.Laws.{sealed_as, ReadsBack, OpensItself, RefusesParts, OpensOne}
 
 itself : (xs : List ℕ) → bytes_eq xs xs ≡ true

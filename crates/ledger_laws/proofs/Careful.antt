@@ -1,14 +1,10 @@
 -- Files are claimed, and leave their boxes, carefully.
 use Rattle.std.proofs.Common.{◌≡◌, inl, inr, ◌<◌, ℕ, suc, Bool, true, false, List, [], ◌∷◌, ◌++◌, map, Option, Some, None, refl, sym, ap, ◌∙◌, subst, arith}
-use Rattle.std.specs.Prelude.{if◌then◌else◌, ◌==◌}
-use Rattle.std.specs.List.{AllByRecursion}
-use Rattle.std.proofs.lemmas.Bool.Decides.{nat_tests}
-use Rattle.ledger_disk.specs.declared.identity.Identity.{Identity}
-use Rattle.ledger_disk.specs.declared.name.Name.TheVariants.{Dropped, Claimed}
+use Rattle.std.{specs.Prelude.{if◌then◌else◌, ◌==◌}, specs.List.{AllByRecursion}, proofs.lemmas.Bool.Decides.{nat_tests}}
+use Rattle.ledger_disk.specs.declared.{identity.Identity.{Identity}, name.Name.TheVariants.{Dropped, Claimed}}
 use Rattle.ledger_disk.specs.declared.name.Folder.TheVariants.{Boxes, Taken}
 use Rattle.ledger_disk.specs.Disks.{SlotOf, Which, Call, Link, Remove, SyncFolder, given, which_after, which_behind, IsAmong}
-use Rattle.ledger_laws.specs.Claims.{links, removals, AreOf}
-use Rattle.ledger_laws.specs.Places.{MayHave, May, Has, ClaimsOne, MayRemove, Calls, AreCareful, CanClaimOne, CanClaim}
+use Rattle.ledger_laws.specs.{Claims.{links, removals, AreOf}, Places.{MayHave, May, Has, ClaimsOne, MayRemove, Calls, AreCareful, CanClaimOne, CanClaim}}
 use Rattle.ledger_laws.specs.Laws.{ClaimsCarefully}
 
 abbrev Entry : Type 0

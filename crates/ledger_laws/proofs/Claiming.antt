@@ -1,12 +1,9 @@
 -- Claimed files are not lost.
 use Rattle.std.proofs.Common.{◌≡◌, ◌⊎◌, inl, inr, ◌<◌, ℕ, zero, suc, ◌+◌, Bool, true, false, List, [], ◌∷◌, ◌++◌, take, Option, Some, None, refl, ap, ◌∙◌, subst, arith}
-use Rattle.std.specs.Prelude.{if◌then◌else◌, ◌==◌}
-use Rattle.std.proofs.lemmas.Bool.Decides.{nat_tests}
-use Rattle.ledger_disk.specs.declared.name.Name.TheVariants.{Dropped, Claimed}
-use Rattle.ledger_disk.specs.declared.name.Folder.TheVariants.{Boxes, Taken}
+use Rattle.std.{specs.Prelude.{if◌then◌else◌, ◌==◌}, proofs.lemmas.Bool.Decides.{nat_tests}}
+use Rattle.ledger_disk.specs.declared.name.{Name.TheVariants.{Dropped, Claimed}, Folder.TheVariants.{Boxes, Taken}}
 use Rattle.ledger_disk.specs.Disks.{Disk, File, Slot, Call, Link, Remove, SyncFolder, after, after_all, given, Files, Leaves, IsRead, IsOne, IsAmong}
-use Rattle.ledger_laws.specs.Claims.{nth, links, removals, claim_calls}
-use Rattle.ledger_laws.specs.Laws.{ClaimsLoseNothing}
+use Rattle.ledger_laws.specs.{Claims.{nth, links, removals, claim_calls}, Laws.{ClaimsLoseNothing}}
 
 alone : File → Slot
 alone file = record { now = Some file; others = [] }

@@ -1,14 +1,9 @@
 -- A commit is put whole.
 use Rattle.std.proofs.Common.{◌≡◌, ◌⊎◌, inl, inr, ◌≤◌, ℕ, zero, suc, ◌+◌, Bool, true, false, List, [], ◌∷◌, ◌++◌, length, Option, Some, None, refl, sym, ap, ◌∙◌, subst, arith}
-use Rattle.std.specs.Prelude.{if◌then◌else◌, option_map, ◌==◌}
-use Rattle.std.specs.List.{AllByRecursion}
-use Rattle.std.proofs.lemmas.Bool.Decides.{nat_tests}
-use Rattle.ledger_disk.specs.declared.name.Name.{Name}
-use Rattle.ledger_disk.specs.declared.name.Name.TheVariants.{Commit, Draft, Dropped, Claimed, Answer, Unfinished}
-use Rattle.ledger_disk.specs.declared.name.Folder.TheVariants.{Ledger}
+use Rattle.std.{specs.Prelude.{if◌then◌else◌, option_map, ◌==◌}, specs.List.{AllByRecursion}, proofs.lemmas.Bool.Decides.{nat_tests}}
+use Rattle.ledger_disk.specs.declared.name.{Name.{Name}, Name.TheVariants.{Commit, Draft, Dropped, Claimed, Answer, Unfinished}, Folder.TheVariants.{Ledger}}
 use Rattle.ledger_disk.specs.Disks.{Disk, File, Slot, Write, SyncFile, Rename, SyncFolder, after, same, given, settled, AllOf, Fits, Files, Leaves, IsRead, IsOne}
-use Rattle.ledger_laws.specs.Commits.{at, whole_file, wanted, Stands, IsLedger, and_more, read_from}
-use Rattle.ledger_laws.specs.Laws.{CommitsWholeAt, CommitsWhole, ReadsTheChain}
+use Rattle.ledger_laws.specs.{Commits.{at, whole_file, wanted, Stands, IsLedger, and_more, read_from}, Laws.{CommitsWholeAt, CommitsWhole, ReadsTheChain}}
 use Rattle.ledger_laws.proofs.Fitting.{fits_after}
 
 -- ---- the last place of a ledger

@@ -1,7 +1,6 @@
 -- Records that follow on one another.
 use Rattle.std.proofs.Common.{◌≡◌, ◌<◌, ◌≤◌, ℕ, zero, suc, ◌+◌, Bool, true, false, List, [], ◌∷◌, ◌++◌, length, take, refl, ap, arith}
-use Rattle.std.specs.Prelude.{if◌then◌else◌, ◌==◌}
-use Rattle.std.proofs.lemmas.Bool.Decides.{nat_tests}
+use Rattle.std.{specs.Prelude.{if◌then◌else◌, ◌==◌}, proofs.lemmas.Bool.Decides.{nat_tests}}
 use Rattle.ledger_laws.specs.Course.{Machine, Record, Took, Refused, Ran, Dropped, Edited, Noted, Kept, behind_first, with_record, folded, Follows, AreHonest, Verdict, Admits, Refuses, intake, AreBeyond, batch, one_if, times, takes, EachOnce}
 use Rattle.ledger_laws.specs.CourseLaws.{IsOnce, Honest, Once, Progress, TakenAsRecorded}
 

@@ -1,13 +1,9 @@
 -- Answers are put whole.
 use Rattle.std.proofs.Common.{◌≡◌, ◌⊎◌, inl, inr, ℕ, zero, suc, Bool, true, false, List, [], ◌∷◌, take, Option, Some, None, refl, sym, ap, ◌∙◌, subst, arith}
-use Rattle.std.specs.Prelude.{if◌then◌else◌, ◌==◌, option_map}
-use Rattle.std.specs.List.{AllByRecursion}
-use Rattle.std.proofs.lemmas.Bool.Decides.{nat_tests}
+use Rattle.std.{specs.Prelude.{if◌then◌else◌, ◌==◌, option_map}, specs.List.{AllByRecursion}, proofs.lemmas.Bool.Decides.{nat_tests}}
 use Rattle.ledger_disk.specs.declared.name.Name.TheVariants.{Answer, Unfinished}
 use Rattle.ledger_disk.specs.Disks.{Disk, File, Write, SyncFile, Rename, after, after_all, given, AllOf, Files, Leaves, IsRead, IsOne}
-use Rattle.ledger_laws.specs.Commits.{whole_file}
-use Rattle.ledger_laws.specs.Answers.{deliver_calls, IsOwed, AreExpected, IsExpected, AnswersFit}
-use Rattle.ledger_laws.specs.Laws.{DeliversWhole}
+use Rattle.ledger_laws.specs.{Commits.{whole_file}, Answers.{deliver_calls, IsOwed, AreExpected, IsExpected, AnswersFit}, Laws.{DeliversWhole}}
 use Rattle.ledger_laws.proofs.Committing.{equal, read_wanted}
 
 module _ (expected : ℕ → Option (List ℕ)) where

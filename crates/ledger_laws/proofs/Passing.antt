@@ -1,15 +1,10 @@
 -- A whole pass.
 use Rattle.std.proofs.Common.{◌≡◌, ◌⊎◌, inl, inr, ℕ, zero, suc, ◌+◌, false, List, [], ◌∷◌, ◌++◌, length, take, Some, refl, ap, ◌∙◌, subst}
-use Rattle.ledger_disk.specs.declared.name.Name.TheVariants.{Dropped, Claimed}
-use Rattle.ledger_disk.specs.declared.name.Folder.TheVariants.{Boxes, Taken}
+use Rattle.ledger_disk.specs.declared.name.{Name.TheVariants.{Dropped, Claimed}, Folder.TheVariants.{Boxes, Taken}}
 use Rattle.ledger_disk.specs.Disks.{Disk, Call, SyncFolder, after, after_all, Leaves, IsRead}
-use Rattle.ledger_laws.specs.Commits.{Stands}
-use Rattle.ledger_laws.specs.Claims.{links, removals, claim_calls}
-use Rattle.ledger_laws.specs.Traces.{Commits, changes_ledger, calls_of, commits_in}
+use Rattle.ledger_laws.specs.{Commits.{Stands}, Claims.{links, removals, claim_calls}, Traces.{Commits, changes_ledger, calls_of, commits_in}}
 use Rattle.ledger_laws.specs.Laws.{IsPrefix, PassLosesNothing}
-use Rattle.ledger_laws.proofs.Tracing.{other_stands}
-use Rattle.ledger_laws.proofs.Claiming.{after_both, claims_lose_nothing}
-use Rattle.ledger_laws.proofs.Recording.{stays_until_recorded}
+use Rattle.ledger_laws.proofs.{Tracing.{other_stands}, Claiming.{after_both, claims_lose_nothing}, Recording.{stays_until_recorded}}
 
 abbrev pub AllOthers : List Call → Type 0
 AllOthers [] = Unit {0}

@@ -1,16 +1,12 @@
 -- A dropped file waits, or was taken once, whatever is done carefully.
 use Rattle.std.proofs.Common.{◌≡◌, ◌⊎◌, inl, inr, ℕ, zero, suc, ◌+◌, Bool, true, false, List, [], ◌∷◌, ◌++◌, length, take, Option, Some, None, refl, sym, ap, ◌∙◌, subst, arith}
-use Rattle.std.specs.Prelude.{if◌then◌else◌, ◌==◌}
-use Rattle.std.proofs.lemmas.Bool.Decides.{nat_tests}
-use Rattle.ledger_disk.specs.declared.identity.Identity.{Identity}
-use Rattle.ledger_disk.specs.declared.name.Name.{Name}
+use Rattle.std.{specs.Prelude.{if◌then◌else◌, ◌==◌}, proofs.lemmas.Bool.Decides.{nat_tests}}
+use Rattle.ledger_disk.specs.declared.{identity.Identity.{Identity}, name.Name.{Name}}
 use Rattle.ledger_disk.specs.declared.name.Name.TheVariants.{Commit, Draft, Dropped, Claimed, Answer, Unfinished}
 use Rattle.ledger_disk.specs.Disks.{Disk, SlotOf, Which, Call, Write, SyncFile, Rename, Link, Remove, SyncFolder, Saw, Looked, Next, after, after_all, same, with_slot, given, brought, settled, stands_in, new_identity, which_after, which_behind, which_booted, IsAmong, Files, Leaves, LeavesWhich}
-use Rattle.ledger_laws.specs.Commits.{Stands, IsLedger, commit_calls}
+use Rattle.ledger_laws.specs.{Commits.{Stands, IsLedger, commit_calls}, Laws.{KeepsFileAt, KeepsEachFile}}
+use Rattle.ledger_laws.proofs.{Committing.{equal, commits_whole}, Tracing.{other_stands, length_more, one_behind, none_behind, standing}}
 use Rattle.ledger_laws.specs.Places.{how_often, MayHave, May, Has, Home, Waits, IsTaken, IsKept, is_apart, ClaimsOne, MayRemove, IsCareful, MayTake, Act, Takes, Commits, Calls, calls_of, commits_in, taken_by, AreCareful}
-use Rattle.ledger_laws.specs.Laws.{KeepsFileAt, KeepsEachFile}
-use Rattle.ledger_laws.proofs.Committing.{equal, commits_whole}
-use Rattle.ledger_laws.proofs.Tracing.{other_stands, length_more, one_behind, none_behind, standing}
 
 abbrev Entry : Type 0
 Entry = SlotOf Identity

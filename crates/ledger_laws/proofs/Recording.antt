@@ -2,9 +2,7 @@
 use Rattle.std.proofs.Common.{◌≡◌, ◌⊎◌, inl, inr, ℕ, zero, suc, List, [], ◌∷◌, length, Some, subst, arith}
 use Rattle.ledger_disk.specs.declared.name.Name.TheVariants.{Draft, Commit, Claimed}
 use Rattle.ledger_disk.specs.Disks.{Disk, File, Slot, Write, SyncFile, Rename, after, Files, Leaves, IsRead, IsOne}
-use Rattle.ledger_laws.specs.Traces.{Commits, commits_in, ended}
-use Rattle.ledger_laws.specs.Laws.{IsPrefix, StaysUntilRecorded}
-use Rattle.ledger_laws.proofs.Tracing.{leaves_a_prefix}
+use Rattle.ledger_laws.{specs.Traces.{Commits, commits_in, ended}, specs.Laws.{IsPrefix, StaysUntilRecorded}, proofs.Tracing.{leaves_a_prefix}}
 
 there : (disk : Disk) (m : ℕ) (file : File) → disk (Claimed m) ≡ record { now = Some file; others = [] } → (c : Files) → Leaves disk c → IsRead (Some file) (c (Claimed m))
 there disk m file e c leaves = by (subst (λ (s : Slot). IsRead s.now (c (Claimed m)) ⊎ IsOne s.others (c (Claimed m))) e (leaves (Claimed m)))

@@ -1,14 +1,10 @@
 -- Runs of commits, and of calls on other names.
 use Rattle.std.proofs.Common.{◌≡◌, ◌⊎◌, inl, inr, ℕ, zero, suc, Bool, true, false, List, [], ◌∷◌, ◌++◌, length, take, Some, None, refl, sym, ap, ◌∙◌, subst, arith}
 use Rattle.std.specs.Prelude.{if◌then◌else◌, ◌||◌}
-use Rattle.ledger_disk.specs.declared.name.Name.{Name}
-use Rattle.ledger_disk.specs.declared.name.Name.TheVariants.{Commit, Draft, Dropped, Claimed, Answer, Unfinished}
-use Rattle.ledger_disk.specs.declared.name.Folder.TheVariants.{Ledger}
+use Rattle.ledger_disk.specs.declared.name.{Name.{Name}, Name.TheVariants.{Commit, Draft, Dropped, Claimed, Answer, Unfinished}, Folder.TheVariants.{Ledger}}
 use Rattle.ledger_disk.specs.Disks.{Disk, Slot, Call, Write, SyncFile, Rename, Link, Remove, SyncFolder, Saw, Looked, Next, after, after_all, with_slot, same, stands_in, given, synced, settled, Files, Leaves}
-use Rattle.ledger_laws.specs.Commits.{at, wanted, Stands, IsLedger, commit_calls}
-use Rattle.ledger_laws.specs.Traces.{Commits, Calls, changes_ledger, calls_of, commits_in, ended}
-use Rattle.ledger_laws.specs.Laws.{IsPrefix, LeavesAPrefix}
-use Rattle.ledger_laws.proofs.Committing.{commits_whole, fits_standing, each_read}
+use Rattle.ledger_laws.specs.{Commits.{at, wanted, Stands, IsLedger, commit_calls}, Traces.{Commits, Calls, changes_ledger, calls_of, commits_in, ended}}
+use Rattle.ledger_laws.{specs.Laws.{IsPrefix, LeavesAPrefix}, proofs.Committing.{commits_whole, fits_standing, each_read}}
 
 not_same : (name : Name) (i : ℕ) → stands_in Ledger name ≡ false → same (Commit i) name ≡ false
 not_same (Commit n) i e = absurd (cc (e))

@@ -1,42 +1,24 @@
 -- The deck of a stretch prints what its texts print.
 use Rattle.std.proofs.Common.{◌≡◌, ℕ, ◌+◌, Bool, false, List, [], ◌∷◌, ◌++◌, Some, refl, sym, ap, ◌∙◌, subst, arith, append_assoc}
-use Rattle.std.specs.List.{concat}
-use Rattle.std.specs.Str.Lines.{lines}
+use Rattle.std.specs.{List.{concat}, Str.Lines.{lines}}
 use Rattle.mon_access.specs.declared.account.Account.{Account}
 use Rattle.mon_catalogue.specs.Sets.{Sets}
 use Rattle.scheduler.specs.Marks.{Marks}
-use Rattle.mon_monitor.specs.SystemStates.{SystemState, first_system}
-use Rattle.mon_monitor.specs.Printouts.{printouts_text}
-use Rattle.mon_monitor.specs.Printed.{given_back}
-use Rattle.mon_monitor.specs.Played.{Played, then_played, played}
+use Rattle.mon_monitor.specs.{SystemStates.{SystemState, first_system}, Printouts.{printouts_text}, Printed.{given_back}, Played.{Played, then_played, played}}
 use Rattle.mon_monitor.specs.Laws.{CardByCard}
-use Rattle.deck_syntax.specs.Decks.{Deck, Asked, Drains, Stopped}
-use Rattle.deck_syntax.specs.Sections.{Closed, deck_of}
-use Rattle.deck_driver.specs.declared.options.Options.{Options}
-use Rattle.deck_driver.specs.RunStates.{opening}
-use Rattle.deck_driver.specs.Printouts.{closing, answer_to}
-use Rattle.deck_run.specs.Laws.{jobs_in, rest_of_output}
-use Rattle.deck_run.proofs.Ordered.{in_two, output_with}
-use Rattle.preflight.specs.Examined.{Verdict, Admits, Refuses}
-use Rattle.preflight.specs.inner.Reading.{examined}
+use Rattle.deck_syntax.specs.{Decks.{Deck, Asked, Drains, Stopped}, Sections.{Closed, deck_of}}
+use Rattle.deck_driver.specs.{declared.options.Options.{Options}, RunStates.{opening}, Printouts.{closing, answer_to}}
+use Rattle.deck_run.{specs.Laws.{jobs_in, rest_of_output}, proofs.Ordered.{in_two, output_with}}
+use Rattle.preflight.{specs.Examined.{Verdict, Admits, Refuses}, specs.inner.Reading.{examined}, specs.Laws.{NeverRefused}, proofs.Exactly.{admits_exactly}}
 use Rattle.preflight.specs.Rounds.{Handed, IsHanded, AreHanded, stream_asks, round_deck}
-use Rattle.preflight.specs.Laws.{NeverRefused}
-use Rattle.preflight.proofs.Exactly.{admits_exactly}
 use Rattle.site_plan.specs.Laws.{GivesAccounts}
-use Rattle.rounds.specs.Delivery.{text_played, delivered}
-use Rattle.rounds.specs.Laws.{EachAlone}
-use Rattle.rounds.proofs.Empty.{nothing_left}
-use Rattle.rounds.proofs.Delivering.{no_jobs_more}
+use Rattle.rounds.{specs.Delivery.{text_played, delivered}, specs.Laws.{EachAlone}, proofs.Empty.{nothing_left}, proofs.Delivering.{no_jobs_more}}
 use Rattle.ledger_laws.specs.Course.{with_record, folded}
 use Rattle.ledger_run.specs.Meaning.{Event, State, machine_of, start}
-use Rattle.ledger_sets.specs.Applying.{Site}
-use Rattle.ledger_sets.specs.Laws.{RunsLead}
-use Rattle.ledger_stretches.specs.Stretches.{texts_in}
-use Rattle.ledger_stretches.proofs.Running.{each_stretch_runs}
-use Rattle.ledger_machine.specs.Steps.{slots, admitted, handed_in, site_step}
-use Rattle.ledger_machine.specs.Decks.{deck_text, output_behind, StandsAt, AreFiles, site_behind}
-use Rattle.ledger_machine.specs.Laws.{course, text_printed, AreOneDeck, StepsAreADeck, kept_behind, EachStretchIsADeck}
-use Rattle.ledger_machine.proofs.Stepping.{went}
+use Rattle.ledger_sets.specs.{Applying.{Site}, Laws.{RunsLead}}
+use Rattle.ledger_stretches.{specs.Stretches.{texts_in}, proofs.Running.{each_stretch_runs}}
+use Rattle.ledger_machine.specs.{Steps.{slots, admitted, handed_in, site_step}, Decks.{deck_text, output_behind, StandsAt, AreFiles, site_behind}}
+use Rattle.ledger_machine.{specs.Laws.{course, text_printed, AreOneDeck, StepsAreADeck, kept_behind, EachStretchIsADeck}, proofs.Stepping.{went}}
 
 -- ---- texts that were handed in
 

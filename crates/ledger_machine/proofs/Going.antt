@@ -1,29 +1,18 @@
 -- A run goes on: jobs that ended, one after the other, and a text line by line.
 use Rattle.std.proofs.Common.{◌≡◌, ◌≢◌, ℕ, suc, ◌+◌, ◌<◌, ◌≤◌, List, [], ◌∷◌, ◌++◌, length, drop, get_or, flat_map, Option, Some, None, Result, Ok, Err, OnOk, refl, sym, ap, ◌∙◌, subst, arith, append_assoc, append-nil}
-use Rattle.std.proofs.lemmas.List.{drop_more, drop_all}
-use Rattle.std.specs.Option.{option_map_or}
-use Rattle.std.specs.Str.Lines.{lines}
+use Rattle.std.{proofs.lemmas.List.{drop_more, drop_all}, specs.Option.{option_map_or}, specs.Str.Lines.{lines}}
 use Rattle.mon_device.specs.Putting.{Standing}
 use Rattle.sno_run.specs.declared.ending.Ending.TheVariants.{Memory}
 use Rattle.job_end.specs.declared.job_end.JobEnd.{JobEnd}
-use Rattle.mon_monitor.specs.SystemStates.{SystemState}
-use Rattle.mon_monitor.specs.Events.{Event, Serve, Load, Give, Drain}
-use Rattle.mon_monitor.specs.Printouts.{printouts_text}
-use Rattle.mon_monitor.specs.Played.{happened}
+use Rattle.mon_monitor.specs.{SystemStates.{SystemState}, Events.{Event, Serve, Load, Give, Drain}, Printouts.{printouts_text}, Played.{happened}}
 use Rattle.mon_monitor.specs.Happening.{HappensUnmarked}
-use Rattle.deck_lines.specs.declared.command.Command.{Command}
-use Rattle.deck_lines.specs.declared.turn.Turn.{Turn}
-use Rattle.deck_syntax.specs.declared.job.OpenJob.{OpenJob}
-use Rattle.deck_syntax.specs.Decks.{Asked, Commands, Enters, Gives, Drains}
-use Rattle.deck_syntax.specs.Jobs.{job_deck_of}
+use Rattle.deck_lines.specs.declared.{command.Command.{Command}, turn.Turn.{Turn}}
+use Rattle.deck_syntax.specs.{declared.job.OpenJob.{OpenJob}, Decks.{Asked, Commands, Enters, Gives, Drains}, Jobs.{job_deck_of}}
 use Rattle.deck_syntax.specs.Sections.{Open, Closed, InList, InJob}
-use Rattle.deck_reader.specs.declared.stream_reader.Event.{Event as Brought}
+use Rattle.deck_reader.specs.{declared.stream_reader.Event.{Event as Brought}, Events.{event_in, open_after}}
 use Rattle.deck_reader.specs.declared.stream_reader.Event.TheVariants as brought
-use Rattle.deck_reader.specs.Events.{event_in, open_after}
 use Rattle.deck_run.specs.Laws.{jobs_in}
-use Rattle.preflight.specs.declared.why.Why.{Why}
-use Rattle.preflight.specs.Examined.{Verdict, Admits, Refuses}
-use Rattle.preflight.specs.inner.Reading.{and_then, all_then, asks_of, why_in, examined}
+use Rattle.preflight.specs.{declared.why.Why.{Why}, Examined.{Verdict, Admits, Refuses}, inner.Reading.{and_then, all_then, asks_of, why_in, examined}}
 use Rattle.ledger_machine.specs.Running.{HappensTo, AreWhole, Place, place, EndsAt, Reaches, Brings, asked_ahead}
 use Rattle.ledger_machine.proofs.Happening.{took_none, plays_more, plays_nothing}
 

@@ -1,29 +1,16 @@
 -- What the calls do is what happens where memory is never short.
 use Rattle.std.proofs.Common.{◌≡◌, ℕ, List, [], ◌∷◌, ◌++◌, length, refl, ap, sym, ◌∙◌, subst, append_assoc, append-nil, map, replicate}
 use Rattle.std.specs.List.{flat_map}
-use Rattle.mon_device.specs.Putting.{Standing, Puts}
-use Rattle.mon_device.proofs.Putting.{puts_nothing, puts_then}
+use Rattle.mon_device.{specs.Putting.{Standing, Puts}, proofs.Putting.{puts_nothing, puts_then}}
 use Rattle.mon_access.specs.declared.account.Account.{Account}
 use Rattle.deck_syntax.specs.declared.job_deck.JobDeck.{JobDeck}
-use Rattle.job_end.specs.declared.job_end.JobEnd.{JobEnd}
-use Rattle.job_end.specs.Printouts.{printout}
-use Rattle.scheduler.specs.States.{SchedulerState}
-use Rattle.scheduler.specs.Marks.{Marks, never, rounds, turns_left, is_done, has_free_slot, room}
-use Rattle.scheduler.specs.AuditLines.{lines_of_rounds}
-use Rattle.mon_monitor.specs.SystemStates.{SystemState, with_scheduler}
-use Rattle.mon_monitor.specs.Events.{Event, Load, Give, Drain}
-use Rattle.mon_monitor.specs.Printouts.{Printout, printouts_text}
-use Rattle.mon_monitor.specs.Played.{Played, of_loading, happened, played}
-use Rattle.mon_monitor.specs.History.{Entry, event_entries, history}
-use Rattle.mon_monitor.specs.Audit.{audit, event_lines, loading_lines, audit_of}
-use Rattle.mon_monitor.specs.Abstraction.{system}
-use Rattle.mon_monitor.specs.Happening.{Does, HappensUnmarked}
-use Rattle.mon_monitor.proofs.Shorthand.{of_ends}
-use Rattle.mon_monitor.proofs.Playing.{printouts_append, ends_text}
-use Rattle.mon_monitor.proofs.Auditing.{audit_append, until_told, load_told}
-use Rattle.ledger_machine.specs.Running.{HappensTo, PlaysTo}
-use Rattle.ledger_machine.proofs.Unmarked.{happened_none}
-use Rattle.ledger_machine.proofs.Plain.{Plainly}
+use Rattle.job_end.specs.{declared.job_end.JobEnd.{JobEnd}, Printouts.{printout}}
+use Rattle.scheduler.specs.{States.{SchedulerState}, Marks.{Marks, never, rounds, turns_left, is_done, has_free_slot, room}, AuditLines.{lines_of_rounds}}
+use Rattle.mon_monitor.specs.{SystemStates.{SystemState, with_scheduler}, Events.{Event, Load, Give, Drain}, Printouts.{Printout, printouts_text}}
+use Rattle.mon_monitor.specs.{Played.{Played, of_loading, happened, played}, History.{Entry, event_entries, history}, Abstraction.{system}}
+use Rattle.mon_monitor.specs.{Audit.{audit, event_lines, loading_lines, audit_of}, Happening.{Does, HappensUnmarked}}
+use Rattle.mon_monitor.proofs.{Shorthand.{of_ends}, Playing.{printouts_append, ends_text}, Auditing.{audit_append, until_told, load_told}}
+use Rattle.ledger_machine.{specs.Running.{HappensTo, PlaysTo}, proofs.Unmarked.{happened_none}, proofs.Plain.{Plainly}}
 
 -- ---- events
 

@@ -2,18 +2,11 @@
 use Rattle.std.proofs.Common.{◌≡◌, ℕ, Bool, true, false, List, [], ◌∷◌, ◌++◌, Option, Some, None, refl, ap, sym, ◌∙◌, subst, inl, inr, ◌⊎◌, if◌then◌else◌, map, take, drop}
 use Rattle.mon_device.specs.Putting.{Standing, Puts}
 use Rattle.sno_run.specs.declared.ending.Ending.TheVariants.{Memory}
-use Rattle.job_end.specs.declared.job_end.JobEnd.{JobEnd}
-use Rattle.job_end.specs.declared.turned.Turned.{Turned}
-use Rattle.job_end.specs.declared.turned.Turned.TheVariants.{Ended}
-use Rattle.scheduler.specs.States.{SlotState, SchedulerState, job_in}
-use Rattle.scheduler.specs.Turns.{ran, turned, ends_by}
-use Rattle.scheduler.specs.Marks.{Mark, Marks, mark_of, exchanges_at, may_break, turn_as, Past, until}
-use Rattle.scheduler.specs.Exchanged.{asked_in, whole_turn}
+use Rattle.job_end.specs.declared.{job_end.JobEnd.{JobEnd}, turned.Turned.{Turned}, turned.Turned.TheVariants.{Ended}}
+use Rattle.scheduler.specs.{States.{SlotState, SchedulerState, job_in}, Turns.{ran, turned, ends_by}, Exchanged.{asked_in, whole_turn}, Turning.{UntilIs}}
+use Rattle.scheduler.specs.{Marks.{Mark, Marks, mark_of, exchanges_at, may_break, turn_as, Past, until}, Rounds.{NoneByMemory, MarksEndJobs}}
 use Rattle.scheduler.specs.AuditLines.{exchanged_lines, end_lines, turn_lines, lines_until}
-use Rattle.scheduler.specs.Turning.{UntilIs}
-use Rattle.scheduler.specs.Rounds.{NoneByMemory, MarksEndJobs}
-use Rattle.scheduler.proofs.Shorthand.{turn_as_by, broken_by}
-use Rattle.scheduler.proofs.Past.{either_way, until_goes}
+use Rattle.scheduler.proofs.{Shorthand.{turn_as_by, broken_by}, Past.{either_way, until_goes}}
 use Rattle.ledger_machine.specs.Running.{AreWhole}
 
 -- ---- one turn

@@ -1,26 +1,16 @@
 -- A text that was played over a state is the step of that state.
 use Rattle.std.proofs.Common.{◌≡◌, ℕ, ◌+◌, List, [], ◌∷◌, ◌++◌, Option, Some, sym, ap, ◌∙◌, subst}
-use Rattle.std.specs.Option.{option_map_or}
-use Rattle.std.specs.Str.Lines.{lines}
+use Rattle.std.specs.{Option.{option_map_or}, Str.Lines.{lines}}
 use Rattle.mon_access.specs.declared.account.Account.{Account}
 use Rattle.mon_catalogue.specs.Sets.{Sets}
-use Rattle.mon_monitor.specs.SystemStates.{SystemState, first_system}
-use Rattle.mon_monitor.specs.Printouts.{printouts_text}
-use Rattle.mon_monitor.specs.Played.{played}
-use Rattle.mon_monitor.specs.Audit.{audit_of}
-use Rattle.deck_syntax.specs.Decks.{Asked}
-use Rattle.deck_syntax.specs.Sections.{Closed}
+use Rattle.mon_monitor.specs.{SystemStates.{SystemState, first_system}, Printouts.{printouts_text}, Played.{played}, Audit.{audit_of}}
+use Rattle.deck_syntax.specs.{Decks.{Asked}, Sections.{Closed}}
 use Rattle.deck_run.specs.Laws.{jobs_in}
-use Rattle.preflight.specs.Examined.{IsSubmission, Admits}
-use Rattle.preflight.specs.inner.Reading.{examined}
-use Rattle.preflight.specs.declared.submission.Submission.{Submission}
-use Rattle.preflight.specs.Submissions.{IsAdmitted, lines_of}
-use Rattle.preflight.proofs.Exactly.{admits_exactly}
-use Rattle.ledger_sets.specs.Applying.{Site}
-use Rattle.ledger_sets.specs.Changes.{run_changes, change_text}
-use Rattle.ledger_machine.specs.Running.{asked_events, asked_ahead}
+use Rattle.preflight.specs.{Examined.{IsSubmission, Admits}, inner.Reading.{examined}, declared.submission.Submission.{Submission}}
+use Rattle.preflight.{specs.Submissions.{IsAdmitted, lines_of}, proofs.Exactly.{admits_exactly}}
+use Rattle.ledger_sets.specs.{Applying.{Site}, Changes.{run_changes, change_text}}
+use Rattle.ledger_machine.{specs.Running.{asked_events, asked_ahead}, proofs.Going.{ahead}}
 use Rattle.ledger_machine.specs.Steps.{slots, admitted, handed_in, accounts_of, step_over, step_asked, step_for, step_at, nothing}
-use Rattle.ledger_machine.proofs.Going.{ahead}
 
 -- ---- the text
 

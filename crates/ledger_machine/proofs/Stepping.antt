@@ -5,17 +5,14 @@ use Rattle.mon_access.specs.declared.account.Account.{Account}
 use Rattle.scheduler.specs.Marks.{Marks}
 use Rattle.mon_monitor.specs.SystemStates.{first_system}
 use Rattle.preflight.specs.Rounds.{Handed}
-use Rattle.site_plan.specs.declared.table.TableFault.{TableFault}
-use Rattle.site_plan.specs.Tables.{table_of}
+use Rattle.site_plan.specs.{declared.table.TableFault.{TableFault}, Tables.{table_of}}
 use Rattle.rounds.specs.Delivery.{text_events, Delivered, delivered}
 use Rattle.ledger_run.specs.Meaning.{machine_of}
-use Rattle.ledger_sets.specs.Applying.{Site, no_site, after_change, after_changes}
-use Rattle.ledger_sets.specs.Laws.{RunsLead}
+use Rattle.ledger_sets.specs.{Applying.{Site, no_site, after_change, after_changes}, Laws.{RunsLead}}
 use Rattle.ledger_stretches.specs.Stretches.{Course, and_printed, run_all}
 use Rattle.ledger_machine.specs.Steps.{slots, text_in, good_of, ran_over, lines_over, jobs_behind, step_over, site_after, nothing, step_for, step_at, site_step}
-use Rattle.ledger_machine.specs.Decks.{StandsAt, AreFiles, site_behind, IsWritten, AreWritten}
-use Rattle.ledger_machine.specs.Laws.{StepsAreTexts, course}
 use Rattle.ledger_machine.proofs.Unmarked.{played_none}
+use Rattle.ledger_machine.specs.{Decks.{StandsAt, AreFiles, site_behind, IsWritten, AreWritten}, Laws.{StepsAreTexts, course}}
 
 step_is : (behind : List (List ℕ)) (file : List ℕ) (site : Site) (accounts : List Account) (text : Handed) → after_changes behind no_site ≡ Some site
     → table_of site.accounts ≡ Ok accounts → text_in file ≡ Some text → site_step file behind ≡ step_over site accounts text

@@ -1,11 +1,8 @@
 -- Where no turn has a mark, none is left over.
 use Rattle.std.proofs.Common.{◌≡◌, ℕ, Bool, List, [], ◌∷◌, length, None, refl, ap, ◌∙◌, inl, inr, replicate}
-use Rattle.scheduler.specs.States.{SchedulerState}
-use Rattle.scheduler.specs.Marks.{Marks, Past, turn_as, until, never, rounds, turns_left, is_done, has_free_slot}
+use Rattle.scheduler.specs.{States.{SchedulerState}, Marks.{Marks, Past, turn_as, until, never, rounds, turns_left, is_done, has_free_slot}}
 use Rattle.scheduler.proofs.Past.{either_way, until_stops, until_goes}
-use Rattle.mon_monitor.specs.SystemStates.{SystemState}
-use Rattle.mon_monitor.specs.Events.{Event, Serve, Load, Give, Drain}
-use Rattle.mon_monitor.specs.Played.{happened, played}
+use Rattle.mon_monitor.specs.{SystemStates.{SystemState}, Events.{Event, Serve, Load, Give, Drain}, Played.{happened, played}}
 
 until_none : (stop : SchedulerState → Bool) (E : List ℕ) (w : SchedulerState) → (until stop E [] w).marks ≡ []
 until_none stop [] w = refl

@@ -1,15 +1,9 @@
 -- The names of claimed files say what they were made of.
 use Rattle.std.proofs.Common.{◌≡◌, ◌≢◌, ℕ, suc, ◌+◌, ◌-◌, ◌*◌, ◌/◌, ◌%◌, ◌^◌, ◌<◌, ◌≤◌, Bool, true, false, ◌&&◌, nat_le, List, [], ◌∷◌, ◌++◌, length, take, drop, Some, None, if◌then◌else◌, refl, ap, ◌∙◌, option_map, arith}
-use Rattle.std.specs.Prelude.{decimal, ◌==◌}
-use Rattle.std.specs.Option.{option_and_then}
-use Rattle.std.specs.List.{list_all, AllByRecursion}
-use Rattle.std.proofs.lemmas.Fmt.{decimal_by_steps, decimal_nonempty, length-decimal-le}
-use Rattle.std.proofs.lemmas.List.Folds.{list_all-append}
-use Rattle.std.proofs.lemmas.Bool.Decides.{nat_tests}
+use Rattle.std.specs.{Prelude.{decimal, ◌==◌}, Option.{option_and_then}, List.{list_all, AllByRecursion}}
+use Rattle.std.proofs.lemmas.{Fmt.{decimal_by_steps, decimal_nonempty, length-decimal-le}, List.Folds.{list_all-append}, Bool.Decides.{nat_tests}}
 use borrow.Author.Tests.{le-leb}
-use Rattle.mon_text.specs.Characters.{is_digit}
-use Rattle.mon_text.specs.Counts.{is_count, value_of}
-use Rattle.mon_text.proofs.Digits.{read_on}
+use Rattle.mon_text.{specs.Characters.{is_digit}, specs.Counts.{is_count, value_of}, proofs.Digits.{read_on}}
 use Rattle.ledger_text.specs.Records.{count_of}
 use Rattle.ledger_names.specs.Naming.{colon, parts_at, split, claim_with, claim_behind, claim_of_parts, ReadsNames}
 

@@ -1,9 +1,7 @@
 -- What is the last checkpoint that serves.
 use Rattle.std.proofs.Common.{◌≡◌, ◌≤◌, ◌<◌, ℕ, Bool, true, false, List, [], ◌∷◌, filter, Option, Some, None, refl, arith, ◌⊎◌, inl, inr, subst}
-use Rattle.std.specs.Prelude.{if◌then◌else◌, nat_lt}
-use Rattle.std.proofs.lemmas.Bool.Decides.{nat_tests}
-use Rattle.ledger_pruning.specs.Starting.{serves, greater, greatest, start_for}
-use Rattle.ledger_pruning.specs.Laws.{IsIn, NoEarlier, StartsLast, IsServing, StartsThere}
+use Rattle.std.{specs.Prelude.{if◌then◌else◌, nat_lt}, proofs.lemmas.Bool.Decides.{nat_tests}}
+use Rattle.ledger_pruning.specs.{Starting.{serves, greater, greatest, start_for}, Laws.{IsIn, NoEarlier, StartsLast, IsServing, StartsThere}}
 
 on_greater : (n m : ℕ) (best : Option ℕ) → NoEarlier n best → NoEarlier n (greater best m)
 on_greater n m None h = absurd h

@@ -1,16 +1,11 @@
 -- Commits, and those behind them.
 use Rattle.std.proofs.Common.{◌≡◌, ◌≤◌, ◌<◌, ℕ, zero, suc, ◌+◌, ◌-◌, nat_le, Bool, true, false, List, [], ◌∷◌, length, take, drop, Option, refl, sym, ap, ◌∙◌, arith}
-use Rattle.std.specs.Prelude.{if◌then◌else◌}
-use Rattle.std.proofs.lemmas.Bool.Decides.{nat_tests}
-use Rattle.std.proofs.lemmas.List.{length-drop}
-use Rattle.ledger_disk.specs.declared.name.Name.TheVariants.{Commit}
-use Rattle.ledger_disk.specs.Disks.{Files}
+use Rattle.std.{specs.Prelude.{if◌then◌else◌}, proofs.lemmas.Bool.Decides.{nat_tests}, proofs.lemmas.List.{length-drop}}
+use Rattle.ledger_disk.specs.{declared.name.Name.TheVariants.{Commit}, Disks.{Files}}
 use Rattle.ledger_text.specs.Digests.{digest_of}
-use Rattle.ledger_laws.specs.Commits.{at, and_more, read_from}
-use Rattle.ledger_laws.specs.Course.{with_record, folded, AreHonest}
+use Rattle.ledger_laws.specs.{Commits.{at, and_more, read_from}, Course.{with_record, folded, AreHonest}}
 use Rattle.ledger_run.specs.Meaning.{Step, Event, State, machine_of, start, Says, end_of}
-use Rattle.ledger_pruning.specs.Pruning.{first_kept}
-use Rattle.ledger_pruning.specs.Laws.{StaysWithin, Stays, ReadsTheRest, OpensTheSame}
+use Rattle.ledger_pruning.specs.{Pruning.{first_kept}, Laws.{StaysWithin, Stays, ReadsTheRest, OpensTheSame}}
 
 -- ---- which stay
 

@@ -1,17 +1,11 @@
 -- A data set that is brought back is as it was, and the others are as they are.
 use Rattle.std.proofs.Common.{◌≡◌, ℕ, nat_eq, Bool, true, false, cond, List, [], ◌∷◌, ◌++◌, Option, Some, None, is_some, option_map, refl, sym, ap, ◌∙◌, subst}
-use Rattle.std.specs.Prelude.{◌≢◌, if◌then◌else◌}
-use Rattle.std.specs.Cmp.Lexicographic.{pointwise, bytes_decides, nat_list_eq_equiv}
-use Rattle.mon_catalogue.specs.declared.data_set.DataSet.{DataSet}
-use Rattle.mon_catalogue.specs.Sets.{Sets, find_set}
-use Rattle.mon_catalogue.specs.Changes.{with_changed}
-use Rattle.mon_catalogue.specs.Laws.{NamedSetChanges, OtherSetsStay}
+use Rattle.std.specs.{Prelude.{◌≢◌, if◌then◌else◌}, Cmp.Lexicographic.{pointwise, bytes_decides, nat_list_eq_equiv}}
+use Rattle.mon_catalogue.specs.{declared.data_set.DataSet.{DataSet}, Sets.{Sets, find_set}, Changes.{with_changed}, Laws.{NamedSetChanges, OtherSetsStay}}
 use Rattle.mon_catalogue.specs.Stored.{IsStored, ArePrintable}
-use Rattle.ledger_sets.specs.Applying.{Site, with_sets, after_all, after_change}
-use Rattle.ledger_sets.specs.Changes.{changes_between, change_text}
+use Rattle.ledger_sets.specs.{Applying.{Site, with_sets, after_all, after_change}, Changes.{changes_between, change_text}}
 use Rattle.ledger_sets.specs.Laws.{AreSmall, ChangesLead, TextsLead}
-use Rattle.ledger_restoring.specs.Restoring.{put_or_gone}
-use Rattle.ledger_restoring.specs.Laws.{RestoresIt, KeepsOthers}
+use Rattle.ledger_restoring.specs.{Restoring.{put_or_gone}, Laws.{RestoresIt, KeepsOthers}}
 
 -- the text of the changes between two catalogues leads from the one to the other
 pub leads : (changes_lead : ChangesLead) (texts_lead : TextsLead) (before after : Sets) (text : List ℕ) → IsStored before → ArePrintable before

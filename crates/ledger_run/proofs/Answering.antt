@@ -2,12 +2,9 @@
 use Rattle.std.proofs.Common.{◌≡◌, ℕ, List, [], ◌∷◌, Some, None, refl, ap, ◌∙◌}
 use Rattle.ledger_text.specs.Records as said
 use Rattle.ledger_laws.specs.Course as course
-use Rattle.ledger_run.specs.declared.event.Event.{Event as Made}
-use Rattle.ledger_run.specs.declared.event.Event.TheVariants as code
-use Rattle.ledger_run.specs.Meaning.{Event}
-use Rattle.ledger_run.specs.Runs.{Seen}
+use Rattle.ledger_run.specs.{declared.event.Event.{Event as Made}, Meaning.{Event}, Runs.{Seen}, Attempts.{Recorded, FirstAnswered}}
 use Rattle.ledger_run.specs.Following.{seen_event, first_number, first_answered, after_event, with_commit}
-use Rattle.ledger_run.specs.Attempts.{Recorded, FirstAnswered}
+use Rattle.ledger_run.specs.declared.event.Event.TheVariants as code
 
 pub none_waits : (waiting : List (ℕ × List ℕ)) → None ≡ first_number waiting → waiting ≡ []
 none_waits [] e = refl

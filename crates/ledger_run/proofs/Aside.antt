@@ -1,18 +1,11 @@
 -- Calls that touch neither the ledger nor an answer.
 use Rattle.std.proofs.Common.{◌≡◌, ℕ, zero, suc, false, List, [], ◌∷◌, ◌++◌, take, Option, refl, sym, ap, ◌∙◌, subst}
-use Rattle.ledger_disk.specs.declared.name.Folder.TheVariants.{Boxes, Taken}
-use Rattle.ledger_disk.specs.declared.name.Name.TheVariants.{Claimed}
+use Rattle.ledger_disk.specs.{declared.name.Folder.TheVariants.{Boxes, Taken}, declared.name.Name.TheVariants.{Claimed}, Plans.{Did, Began}}
 use Rattle.ledger_disk.specs.Disks.{Disk, Call, Remove, SyncFolder, Leaves, after, after_all}
-use Rattle.ledger_disk.specs.Plans.{Did, Began}
-use Rattle.ledger_laws.specs.Answers.{AnswersFit}
-use Rattle.ledger_laws.specs.Claims.{links, removals, claim_calls}
-use Rattle.ledger_laws.specs.Traces.{changes_ledger}
-use Rattle.ledger_laws.proofs.Tracing.{other_stands}
-use Rattle.ledger_laws.proofs.Claiming.{after_both}
-use Rattle.ledger_run.specs.Meaning.{Step, Event}
-use Rattle.ledger_run.specs.Runs.{Seen, Stood, IsOpen, SafeFrom, CarriesOn, answer_in}
-use Rattle.ledger_run.proofs.Planned.{taken_twice}
-use Rattle.ledger_run.proofs.Safety.{stood_safe}
+use Rattle.ledger_laws.specs.{Answers.{AnswersFit}, Claims.{links, removals, claim_calls}, Traces.{changes_ledger}}
+use Rattle.ledger_laws.proofs.{Tracing.{other_stands}, Claiming.{after_both}}
+use Rattle.ledger_run.specs.{Meaning.{Step, Event}, Runs.{Seen, Stood, IsOpen, SafeFrom, CarriesOn, answer_in}}
+use Rattle.ledger_run.proofs.{Planned.{taken_twice}, Safety.{stood_safe}}
 
 none_behind : {A : Type 0} (xs : List A) → xs ++ [] ≡ xs
 none_behind [] = refl

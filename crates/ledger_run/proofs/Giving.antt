@@ -1,19 +1,11 @@
 -- Answers that are owed are put.
 use Rattle.std.proofs.Common.{◌≡◌, ◌≤◌, ℕ, zero, suc, ◌+◌, Bool, true, false, List, [], ◌∷◌, ◌++◌, take, Some, refl, sym, ap, ◌∙◌, subst, arith}
-use Rattle.std.specs.Prelude.{if◌then◌else◌, ◌==◌}
-use Rattle.std.proofs.lemmas.Bool.Decides.{nat_tests}
-use Rattle.ledger_disk.specs.Disks.{Disk, Call, Leaves, after_all}
-use Rattle.ledger_disk.specs.Plans.{Did, Began}
-use Rattle.ledger_laws.specs.Answers.{deliver_calls, AreExpected}
-use Rattle.ledger_laws.specs.Course.{one_if, times}
-use Rattle.ledger_laws.proofs.Coursing.{all_once}
-use Rattle.ledger_laws.proofs.Delivering.{delivers_whole}
-use Rattle.ledger_laws.proofs.Passing.{AllOthers, all_stand}
-use Rattle.ledger_laws.proofs.Claiming.{after_both}
-use Rattle.ledger_run.specs.Meaning.{Step, machine_of, start, answer_among}
-use Rattle.ledger_run.specs.Runs.{Seen, Stood, IsOpen, SafeFrom, CarriesOn, state_of, answer_in}
-use Rattle.ledger_run.proofs.Planned.{taken_twice}
-use Rattle.ledger_run.proofs.Safety.{stood_safe}
+use Rattle.std.{specs.Prelude.{if◌then◌else◌, ◌==◌}, proofs.lemmas.Bool.Decides.{nat_tests}}
+use Rattle.ledger_disk.specs.{Disks.{Disk, Call, Leaves, after_all}, Plans.{Did, Began}}
+use Rattle.ledger_laws.specs.{Answers.{deliver_calls, AreExpected}, Course.{one_if, times}}
+use Rattle.ledger_laws.proofs.{Coursing.{all_once}, Delivering.{delivers_whole}, Passing.{AllOthers, all_stand}, Claiming.{after_both}}
+use Rattle.ledger_run.specs.{Meaning.{Step, machine_of, start, answer_among}, Runs.{Seen, Stood, IsOpen, SafeFrom, CarriesOn, state_of, answer_in}}
+use Rattle.ledger_run.proofs.{Planned.{taken_twice}, Safety.{stood_safe}}
 
 in_row : {A : Type 0} (xs ys zs : List A) → (xs ++ ys) ++ zs ≡ xs ++ (ys ++ zs)
 in_row [] ys zs = refl

@@ -1,19 +1,14 @@
 -- One event behind the others.
 use Rattle.std.proofs.Common.{◌≡◌, ◌≤◌, ◌^◌, ℕ, ◌-◌, Bool, true, false, List, [], ◌∷◌, ◌++◌, Some, None, refl, sym, ap, ◌∙◌, subst, arith}
-use Rattle.std.specs.Prelude.{if◌then◌else◌, ◌==◌, ◌&&◌, nat_le, nat_lt}
-use Rattle.std.proofs.lemmas.Bool.Decides.{nat_tests}
+use Rattle.std.{specs.Prelude.{if◌then◌else◌, ◌==◌, ◌&&◌, nat_le, nat_lt}, proofs.lemmas.Bool.Decides.{nat_tests}}
 use Rattle.ledger_text.specs.Records as said
-use Rattle.ledger_text.specs.Records.{Said}
-use Rattle.ledger_text.specs.Text.{commit_of}
-use Rattle.ledger_text.specs.Digests.{digest_of}
+use Rattle.ledger_text.specs.{Records.{Said}, Text.{commit_of}, Digests.{digest_of}}
 use Rattle.ledger_laws.specs.Course as course
-use Rattle.ledger_laws.specs.Course.{Machine, behind_first, with_record, folded, Follows, AreHonest}
-use Rattle.ledger_laws.proofs.Coursing.{both_honest}
-use Rattle.ledger_run.specs.declared.event.Event.{Event as Made}
-use Rattle.ledger_run.specs.declared.event.Event.TheVariants as code
+use Rattle.ledger_laws.{specs.Course.{Machine, behind_first, with_record, folded, Follows, AreHonest}, proofs.Coursing.{both_honest}}
+use Rattle.ledger_run.specs.{declared.event.Event.{Event as Made}, Runs.{Seen, IsKept, state_of, answer_in}}
 use Rattle.ledger_run.specs.Meaning.{Step, Event, State, machine_of, start, event_of, event_behind, Says, end_of, answer_among}
-use Rattle.ledger_run.specs.Runs.{Seen, IsKept, state_of, answer_in}
 use Rattle.ledger_run.specs.Following.{seen_event, first_number, is_number, is_free, may_follow, IsTold, Tells, runs, after_event, changed_by}
+use Rattle.ledger_run.specs.declared.event.Event.TheVariants as code
 
 in_row : {A : Type 0} (xs ys zs : List A) → (xs ++ ys) ++ zs ≡ xs ++ (ys ++ zs)
 in_row [] ys zs = refl

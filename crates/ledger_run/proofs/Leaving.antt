@@ -1,24 +1,13 @@
 -- What stands under a number leaves its box.
 use Rattle.std.proofs.Common.{◌≡◌, inl, inr, ℕ, suc, ◌+◌, Bool, true, false, List, [], ◌∷◌, ◌++◌, length, map, Option, Some, None, refl, sym, ap, ◌∙◌, subst, arith}
-use Rattle.std.proofs.lemmas.Bool.Decides.{nat_tests}
-use Rattle.ledger_laws.specs.Claims.{AreOf}
-use Rattle.std.specs.Prelude.{if◌then◌else◌, ◌==◌}
-use Rattle.std.specs.List.{AllByRecursion}
-use Rattle.ledger_disk.specs.declared.identity.Identity.{Identity}
-use Rattle.ledger_disk.specs.declared.name.Name.TheVariants.{Dropped, Claimed}
+use Rattle.std.{proofs.lemmas.Bool.Decides.{nat_tests}, specs.Prelude.{if◌then◌else◌, ◌==◌}, specs.List.{AllByRecursion}}
+use Rattle.ledger_laws.specs.{Claims.{AreOf}, Traces.{changes_ledger}, Answers.{AnswersFit}, Places.{Calls, AreCareful}}
+use Rattle.ledger_laws.proofs.{Claiming.{after_both}, Careful.{IsUnder, leaves_carefully}}
+use Rattle.ledger_disk.specs.declared.{identity.Identity.{Identity}, name.Name.TheVariants.{Dropped, Claimed}}
 use Rattle.ledger_disk.specs.Disks.{Disk, Which, Call, Write, SyncFile, Rename, Link, Remove, SyncFolder, Saw, Looked, Next, after, after_all, given, which_after, which_behind, LooksAreTrue, AreTrue, IsAmong}
-use Rattle.ledger_laws.specs.Traces.{changes_ledger}
-use Rattle.ledger_laws.specs.Answers.{AnswersFit}
-use Rattle.ledger_laws.specs.Places.{Calls, AreCareful}
-use Rattle.ledger_laws.proofs.Claiming.{after_both}
-use Rattle.ledger_laws.proofs.Careful.{IsUnder, leaves_carefully}
-use Rattle.ledger_run.specs.Meaning.{Step}
-use Rattle.ledger_run.specs.Runs.{Seen, Stood, IsOpen, Opens}
+use Rattle.ledger_run.specs.{Meaning.{Step}, Runs.{Seen, Stood, IsOpen, Opens}, Claiming.{DidSome, BeganSome}}
+use Rattle.ledger_run.proofs.{Looking.{behind_both, looks_same, split, looks_so}, Aside.{AllAside, removals_aside, stood_behind}, Refusing.{some_claimed}}
 use Rattle.ledger_run.specs.Finishing.{is_look, Looks, IsClaimed, IsUnclaimed, IsFit, AreSorted, leave_calls, Leaves, Finishes, LeavesNone, LeavesFit, FinishesCarefully}
-use Rattle.ledger_run.proofs.Looking.{behind_both, looks_same, split, looks_so}
-use Rattle.ledger_run.specs.Claiming.{DidSome, BeganSome}
-use Rattle.ledger_run.proofs.Aside.{AllAside, removals_aside, stood_behind}
-use Rattle.ledger_run.proofs.Refusing.{some_claimed}
 
 in_row : {A : Type 0} (xs ys zs : List A) → (xs ++ ys) ++ zs ≡ xs ++ (ys ++ zs)
 in_row [] ys zs = refl

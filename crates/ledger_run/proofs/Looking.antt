@@ -1,13 +1,8 @@
 -- Looks, one behind the other, and what they come to.
 use Rattle.std.proofs.Common.{◌≡◌, ◌<◌, ◌^◌, ℕ, suc, ◌+◌, Bool, true, false, List, [], ◌∷◌, ◌++◌, length, Option, Some, None, refl, sym, ap, ◌∙◌, subst, arith}
-use Rattle.std.specs.Prelude.{if◌then◌else◌, ◌==◌, ◌&&◌, nat_lt}
-use Rattle.std.specs.List.{AllByRecursion}
-use Rattle.std.proofs.lemmas.Bool.Decides.{nat_tests}
-use Rattle.ledger_disk.specs.declared.identity.Identity.{Identity}
-use Rattle.ledger_disk.specs.declared.name.Name.{Name}
-use Rattle.ledger_disk.specs.declared.name.Name.TheVariants.{Claimed}
+use Rattle.std.{specs.Prelude.{if◌then◌else◌, ◌==◌, ◌&&◌, nat_lt}, specs.List.{AllByRecursion}, proofs.lemmas.Bool.Decides.{nat_tests}}
+use Rattle.ledger_disk.specs.{declared.identity.Identity.{Identity}, declared.name.Name.{Name}, declared.name.Name.TheVariants.{Claimed}, Plans.{Did}}
 use Rattle.ledger_disk.specs.Disks.{Which, Call, Write, SyncFile, Rename, Link, Remove, SyncFolder, Saw, Looked, Next, which_after, which_behind, LooksAreTrue, IsNext}
-use Rattle.ledger_disk.specs.Plans.{Did}
 use Rattle.ledger_names.specs.Sorting.{same_file, is_among}
 use Rattle.ledger_run.specs.Finishing.{is_look, Looks, StandsUnder, Gathered, Adds, bound}
 

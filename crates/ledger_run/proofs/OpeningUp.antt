@@ -1,19 +1,11 @@
 -- The ledger is opened.
 use Rattle.std.proofs.Common.{◌≡◌, ◌⊎◌, inl, inr, ◌<◌, ◌^◌, ℕ, ◌+◌, ◌-◌, List, [], ◌∷◌, ◌++◌, length, take, map, get_or, Option, Some, None, refl, sym, ap, ◌∙◌, subst, arith}
-use Rattle.std.specs.Prelude.{option_map}
-use Rattle.std.proofs.lemmas.List.{map-append, take_more}
-use Rattle.ledger_disk.specs.declared.name.Name.TheVariants.{Commit, Answer}
-use Rattle.ledger_disk.specs.Disks.{Disk, File, Slot, Call, AreTrue, after_all, found_in}
-use Rattle.ledger_disk.specs.Plans.{Did}
+use Rattle.std.{specs.Prelude.{option_map}, proofs.lemmas.List.{map-append, take_more}}
+use Rattle.ledger_disk.specs.{declared.name.Name.TheVariants.{Commit, Answer}, Disks.{Disk, File, Slot, Call, AreTrue, after_all, found_in}, Plans.{Did}}
 use Rattle.ledger_text.specs.Digests.{digest_of}
-use Rattle.ledger_laws.specs.Commits.{at, whole_file, read_from}
-use Rattle.ledger_laws.proofs.Committing.{reads_the_chain}
-use Rattle.ledger_laws.proofs.Claiming.{after_both}
-use Rattle.ledger_run.specs.Meaning.{Step, Event, Says}
-use Rattle.ledger_run.specs.Runs.{Seen, IsOf, Stood, IsLeft, Opens, Restarts, settle_calls, answer_in}
-use Rattle.ledger_run.specs.Following.{seen_event, Takes, TakesAll, IsOfChain, with_commit, after_event}
-use Rattle.ledger_run.specs.Senders.{no_senders}
-use Rattle.ledger_run.proofs.Safety.{of_more}
+use Rattle.ledger_laws.{specs.Commits.{at, whole_file, read_from}, proofs.Committing.{reads_the_chain}, proofs.Claiming.{after_both}}
+use Rattle.ledger_run.specs.{Meaning.{Step, Event, Says}, Runs.{Seen, IsOf, Stood, IsLeft, Opens, Restarts, settle_calls, answer_in}}
+use Rattle.ledger_run.{specs.Following.{seen_event, Takes, TakesAll, IsOfChain, with_commit, after_event}, specs.Senders.{no_senders}, proofs.Safety.{of_more}}
 
 in_row : {A : Type 0} (xs ys zs : List A) → (xs ++ ys) ++ zs ≡ xs ++ (ys ++ zs)
 in_row [] ys zs = refl

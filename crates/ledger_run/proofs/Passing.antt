@@ -1,15 +1,10 @@
 -- A whole pass is careful.
 use Rattle.std.proofs.Common.{◌≡◌, inl, inr, ◌<◌, ℕ, suc, ◌+◌, Bool, true, false, List, [], ◌∷◌, ◌++◌, length, map, Option, Some, None, refl, sym, ap, ◌∙◌, subst, arith}
-use Rattle.std.specs.Prelude.{if◌then◌else◌, ◌==◌}
-use Rattle.std.proofs.lemmas.Bool.Decides.{nat_tests}
-use Rattle.ledger_disk.specs.declared.identity.Identity.{Identity}
-use Rattle.ledger_disk.specs.declared.name.Name.TheVariants.{Dropped, Claimed}
-use Rattle.ledger_disk.specs.declared.name.Folder.TheVariants.{Boxes, Taken}
+use Rattle.std.{specs.Prelude.{if◌then◌else◌, ◌==◌}, proofs.lemmas.Bool.Decides.{nat_tests}}
+use Rattle.ledger_disk.specs.declared.{identity.Identity.{Identity}, name.Name.TheVariants.{Dropped, Claimed}, name.Folder.TheVariants.{Boxes, Taken}}
 use Rattle.ledger_disk.specs.Disks.{SlotOf, Which, Call, Write, SyncFile, Rename, Link, Remove, SyncFolder, Saw, Looked, Next, given, which_after, which_behind, IsAmong}
-use Rattle.ledger_laws.specs.Commits.{commit_calls}
-use Rattle.ledger_laws.specs.Claims.{links, removals, claim_calls, AreOf}
+use Rattle.ledger_laws.{specs.Commits.{commit_calls}, specs.Claims.{links, removals, claim_calls, AreOf}, proofs.Careful.{claims_carefully}}
 use Rattle.ledger_laws.specs.Places.{May, Has, Act, Takes, Commits, Calls, how_often, AreCareful, CanClaim}
-use Rattle.ledger_laws.proofs.Careful.{claims_carefully}
 use Rattle.ledger_run.specs.Passes.{take_acts, AreAside, AreSole, PassIsCareful}
 
 -- ---- calls, and then more

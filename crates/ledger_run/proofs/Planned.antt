@@ -1,16 +1,10 @@
 -- Plans, one behind the other.
 use Rattle.std.proofs.Common.{◌≡◌, ◌<◌, ℕ, zero, suc, ◌+◌, List, [], ◌∷◌, ◌++◌, length, take, drop as list_drop, map, get_or, refl, sym, ap, ◌∙◌, subst, arith}
-use Rattle.ledger_disk.specs.Disks.{Disk, Call, Write, SyncFile, Rename, Leaves, after, after_all}
-use Rattle.ledger_laws.specs.Commits.{commit_calls}
-use Rattle.ledger_laws.proofs.Committing.{commits_whole}
-use Rattle.std.proofs.lemmas.List.{drop_more}
-use Rattle.ledger_disk.specs.declared.name.Name.TheVariants.{Answer, Unfinished}
+use Rattle.ledger_disk.specs.{Disks.{Disk, Call, Write, SyncFile, Rename, Leaves, after, after_all}, declared.name.Name.TheVariants.{Answer, Unfinished}}
 use Rattle.ledger_disk.specs.Plans.{Did, Began}
-use Rattle.ledger_laws.specs.Answers.{deliver_calls}
-use Rattle.ledger_run.specs.declared.answers.Owed.{Owed}
-use Rattle.ledger_run.specs.Owing.{owed_as}
-use Rattle.ledger_laws.proofs.Delivering.{delivers_whole}
-use Rattle.ledger_run.specs.Moments.{LeavesEither, AnswersEach}
+use Rattle.ledger_laws.{specs.Commits.{commit_calls}, proofs.Committing.{commits_whole}, specs.Answers.{deliver_calls}, proofs.Delivering.{delivers_whole}}
+use Rattle.std.proofs.lemmas.List.{drop_more}
+use Rattle.ledger_run.specs.{declared.answers.Owed.{Owed}, Owing.{owed_as}, Moments.{LeavesEither, AnswersEach}}
 
 -- what follows for a run of all that is left follows for a run of all
 pub record GoesOn {D : Type 0} (calls : D → List Call) (all left : List Call) (old now : D) : Type 0 where

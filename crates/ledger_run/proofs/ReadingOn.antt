@@ -1,10 +1,8 @@
 -- Reading the ledger, commit by commit.
 use Rattle.std.proofs.Common.{◌≡◌, ◌<◌, ℕ, suc, ◌+◌, ◌-◌, List, [], ◌∷◌, ◌++◌, Option, Some, None, refl, sym, ap, ◌∙◌, subst, arith}
-use Rattle.ledger_disk.specs.declared.name.Name.{Name}
-use Rattle.ledger_disk.specs.declared.name.Name.TheVariants.{Commit}
+use Rattle.ledger_disk.specs.{declared.name.Name.{Name}, declared.name.Name.TheVariants.{Commit}, Plans.{Did}}
 use Rattle.ledger_disk.specs.Disks.{Disk, Files, Call, Write, SyncFile, Rename, Link, Remove, SyncFolder, Saw, Looked, Next, after, after_all, found_in, AreTrue}
 use Rattle.ledger_laws.specs.Commits.{and_more, read_from}
-use Rattle.ledger_disk.specs.Plans.{Did}
 
 record Told (xs : List Call) (name : Name) (found : Option (List ℕ)) (first : Disk) : Type 0 where
   before : AreTrue xs first

@@ -1,17 +1,10 @@
 -- Files are claimed, of which the system refuses some.
 use Rattle.std.proofs.Common.{◌≡◌, ◌⊎◌, inl, inr, ◌<◌, ◌≤◌, ℕ, zero, suc, ◌+◌, Bool, true, false, List, [], ◌∷◌, ◌++◌, length, take, Some, refl, sym, ap, ◌∙◌, subst, arith}
-use Rattle.std.specs.Prelude.{slice_index, ◌==◌}
-use Rattle.std.specs.List.{AllByRecursion}
-use Rattle.std.proofs.lemmas.Bool.Decides.{nat_tests}
-use Rattle.ledger_disk.specs.declared.name.Name.TheVariants.{Dropped, Claimed}
-use Rattle.ledger_disk.specs.declared.name.Folder.TheVariants.{Boxes, Taken}
+use Rattle.std.{specs.Prelude.{slice_index, ◌==◌}, specs.List.{AllByRecursion}, proofs.lemmas.Bool.Decides.{nat_tests}}
+use Rattle.ledger_disk.specs.{declared.name.Name.TheVariants.{Dropped, Claimed}, declared.name.Folder.TheVariants.{Boxes, Taken}, Plans.{Did, Began}}
 use Rattle.ledger_disk.specs.Disks.{Disk, Call, Link, Remove, SyncFolder, IsAmong, IsRead, Leaves, Which, after_all}
-use Rattle.ledger_disk.specs.Plans.{Did, Began}
-use Rattle.ledger_laws.specs.Claims.{nth, links, removals, claim_calls, AreOf}
-use Rattle.ledger_laws.proofs.Claiming.{claims_lose_nothing, unclaimed}
-use Rattle.ledger_run.specs.Claiming.{DoesSome, DidSome, BeganSome, DoesNext, LinksNext, ClaimsBegun}
-use Rattle.ledger_run.specs.Finishing.{IsClaimed, leave_calls}
-use Rattle.ledger_run.specs.Moments.{KeepsEach}
+use Rattle.ledger_laws.{specs.Claims.{nth, links, removals, claim_calls, AreOf}, proofs.Claiming.{claims_lose_nothing, unclaimed}}
+use Rattle.ledger_run.specs.{Claiming.{DoesSome, DidSome, BeganSome, DoesNext, LinksNext, ClaimsBegun}, Finishing.{IsClaimed, leave_calls}, Moments.{KeepsEach}}
 use Rattle.ledger_run.proofs.Planned.{whole, both, then, within, moment}
 
 none_behind : {A : Type 0} (xs : List A) → xs ++ [] ≡ xs

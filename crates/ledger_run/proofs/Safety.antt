@@ -1,28 +1,17 @@
 -- What a power cut leaves while one commit more is put.
 use Rattle.std.proofs.Common.{◌≡◌, ◌⊎◌, inl, inr, ℕ, zero, suc, ◌+◌, true, List, [], ◌∷◌, ◌++◌, length, take, Option, Some, None, refl, sym, ap, ◌∙◌, subst, arith}
-use Rattle.std.specs.Prelude.{option_map}
-use Rattle.std.specs.List.{AllByRecursion}
-use Rattle.ledger_disk.specs.declared.name.Name.TheVariants.{Answer}
-use Rattle.ledger_disk.specs.Disks.{Disk, File, Slot, Files, Call, Leaves, AllOf, after_all}
-use Rattle.ledger_disk.specs.Plans.{Did, Began}
-use Rattle.ledger_text.specs.Text.{commit_of}
-use Rattle.ledger_text.specs.Digests.{digest_of}
-use Rattle.ledger_laws.specs.Commits.{IsLedger, whole_file, commit_calls}
-use Rattle.ledger_laws.specs.Answers.{AnswersFit, IsExpected}
-use Rattle.ledger_laws.specs.Course.{Follows}
-use Rattle.ledger_laws.proofs.Committing.{commits_whole}
-use Rattle.ledger_laws.proofs.Tracing.{standing, length_more}
-use Rattle.ledger_laws.proofs.Delivering.{read_fitting}
-use Rattle.ledger_laws.proofs.Passing.{cut_both}
+use Rattle.std.specs.{Prelude.{option_map}, List.{AllByRecursion}}
+use Rattle.ledger_disk.specs.{declared.name.Name.TheVariants.{Answer}, Disks.{Disk, File, Slot, Files, Call, Leaves, AllOf, after_all}, Plans.{Did, Began}}
+use Rattle.ledger_text.specs.{Text.{commit_of}, Digests.{digest_of}}
+use Rattle.ledger_laws.specs.{Commits.{IsLedger, whole_file, commit_calls}, Answers.{AnswersFit, IsExpected}, Course.{Follows}}
+use Rattle.ledger_laws.proofs.{Committing.{commits_whole}, Tracing.{standing, length_more}, Delivering.{read_fitting}, Passing.{cut_both}}
 use Rattle.ledger_laws.proofs.Claiming.{after_both}
-use Rattle.ledger_run.specs.declared.event.Event.{Event as Made}
-use Rattle.ledger_run.specs.declared.event.Event.TheVariants as code
-use Rattle.ledger_run.specs.Meaning.{Step, Event, State, machine_of, event_behind, Says, end_of}
+use Rattle.ledger_run.specs.{declared.event.Event.{Event as Made}, Meaning.{Step, Event, State, machine_of, event_behind, Says, end_of}}
 use Rattle.ledger_run.specs.Runs.{Seen, IsKept, IsOf, Stood, IsSafe, AreSafe, IsOpen, GoesOnFrom, SafeFrom, CarriesOn, state_of, answer_in}
 use Rattle.ledger_run.specs.Following.{seen_event, event_sent, first_number, may_follow, Tells, after_event, changed_by, with_commit}
 use Rattle.ledger_run.specs.Senders.{Sent, Senders, no_senders, after_sent, sent_in, senders_behind, senders_of}
-use Rattle.ledger_run.proofs.Planned.{taken_twice}
-use Rattle.ledger_run.proofs.Keeping.{becomes, follows, says_more, end_more, state_more, honest_more, answer_more}
+use Rattle.ledger_run.proofs.{Planned.{taken_twice}, Keeping.{becomes, follows, says_more, end_more, state_more, honest_more, answer_more}}
+use Rattle.ledger_run.specs.declared.event.Event.TheVariants as code
 
 in_row : {A : Type 0} (xs ys zs : List A) → (xs ++ ys) ++ zs ≡ xs ++ (ys ++ zs)
 in_row [] ys zs = refl

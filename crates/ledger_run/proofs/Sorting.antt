@@ -1,16 +1,10 @@
 -- Files in boxes, sorted by what was seen of them.
 use Rattle.std.proofs.Common.{◌≡◌, ◌⊎◌, inl, inr, ◌<◌, ◌≤◌, ◌^◌, ℕ, zero, suc, ◌+◌, Bool, true, false, List, [], ◌∷◌, ◌++◌, length, take, slice_index, Option, Some, None, refl, sym, ap, ◌∙◌, subst, arith}
-use Rattle.std.specs.Prelude.{if◌then◌else◌, ◌==◌, ◌&&◌, not}
-use Rattle.std.specs.List.{AllByRecursion}
-use Rattle.std.proofs.lemmas.Bool.Decides.{nat_tests}
-use Rattle.ledger_disk.specs.declared.identity.Identity.{Identity}
-use Rattle.ledger_disk.specs.declared.name.Name.TheVariants.{Dropped}
-use Rattle.ledger_disk.specs.Disks.{Which, Call, Looked, IsAmong}
+use Rattle.std.{specs.Prelude.{if◌then◌else◌, ◌==◌, ◌&&◌, not}, specs.List.{AllByRecursion}, proofs.lemmas.Bool.Decides.{nat_tests}}
+use Rattle.ledger_disk.specs.{declared.identity.Identity.{Identity}, declared.name.Name.TheVariants.{Dropped}, Disks.{Which, Call, Looked, IsAmong}}
 use Rattle.ledger_disk.specs.Plans.{Did}
-use Rattle.ledger_names.specs.declared.sorting.Boxed.{Boxed}
-use Rattle.ledger_run.specs.Finishing.{Looks, Gathered, IsClaimed, IsFit, AreOnce, AreSorted}
-use Rattle.ledger_names.specs.Sorting.{same_file, is_among, names_of, is_fit, put_if, done_of, left_of}
-use Rattle.ledger_run.specs.Sorting.{IsSeen, AreSeen, SeesOne}
+use Rattle.ledger_names.specs.{declared.sorting.Boxed.{Boxed}, Sorting.{same_file, is_among, names_of, is_fit, put_if, done_of, left_of}}
+use Rattle.ledger_run.specs.{Finishing.{Looks, Gathered, IsClaimed, IsFit, AreOnce, AreSorted}, Sorting.{IsSeen, AreSeen, SeesOne}}
 use Rattle.ledger_run.proofs.Looking.{all_both, inside, same_self, stands_among, look_one, looks_none, looks_so, looks_then, looks_on}
 
 -- ---- one place more

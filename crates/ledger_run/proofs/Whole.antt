@@ -1,19 +1,12 @@
 -- A whole run is careful.
 use Rattle.std.proofs.Common.{◌≡◌, inl, inr, ◌≤◌, ◌^◌, ℕ, suc, ◌+◌, Bool, true, false, List, [], ◌∷◌, ◌++◌, length, map, Option, Some, None, refl, sym, ap, ◌∙◌, subst, arith}
-use Rattle.std.specs.Prelude.{nat_lt}
-use Rattle.std.specs.List.{AllByRecursion}
-use Rattle.std.proofs.lemmas.Bool.Decides.{nat_tests}
-use Rattle.ledger_disk.specs.declared.identity.Identity.{Identity}
-use Rattle.ledger_disk.specs.declared.name.Name.TheVariants.{Dropped, Claimed}
+use Rattle.std.{specs.Prelude.{nat_lt}, specs.List.{AllByRecursion}, proofs.lemmas.Bool.Decides.{nat_tests}}
+use Rattle.ledger_disk.specs.declared.{identity.Identity.{Identity}, name.Name.TheVariants.{Dropped, Claimed}}
 use Rattle.ledger_disk.specs.Disks.{SlotOf, Which, Call, Write, SyncFile, Rename, Link, Remove, SyncFolder, Saw, Looked, Next, which_after, which_behind, IsAmong}
-use Rattle.ledger_laws.specs.Claims.{claim_calls}
-use Rattle.ledger_laws.specs.Places.{May, Act, Calls, how_often, AreCareful, CanClaim}
-use Rattle.ledger_laws.proofs.Placing.{keeps_each_file}
-use Rattle.ledger_laws.proofs.Careful.{leaves_carefully}
-use Rattle.ledger_run.specs.Finishing.{IsFit, AreOnce, leave_calls}
-use Rattle.ledger_run.specs.Passes.{take_acts, AreSole, AreSights, is_sight, Run, run_acts, MayRun, RunKeepsFiles}
-use Rattle.ledger_run.proofs.Leaving.{claimed_under, leave_now, leave_under, fit_behind}
-use Rattle.ledger_run.proofs.Passing.{calls_then, pass_is_careful}
+use Rattle.ledger_laws.specs.{Claims.{claim_calls}, Places.{May, Act, Calls, how_often, AreCareful, CanClaim}}
+use Rattle.ledger_laws.proofs.{Placing.{keeps_each_file}, Careful.{leaves_carefully}}
+use Rattle.ledger_run.specs.{Finishing.{IsFit, AreOnce, leave_calls}, Passes.{take_acts, AreSole, AreSights, is_sight, Run, run_acts, MayRun, RunKeepsFiles}}
+use Rattle.ledger_run.proofs.{Leaving.{claimed_under, leave_now, leave_under, fit_behind}, Passing.{calls_then, pass_is_careful}}
 
 -- ---- what is only seen
 

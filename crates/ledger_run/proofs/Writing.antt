@@ -1,14 +1,9 @@
 -- A commit is read as it was written.
 use Rattle.std.proofs.Common.{◌≡◌, ◌<◌, ◌≤◌, ◌^◌, ℕ, suc, ◌+◌, Bool, List, [], ◌∷◌, ◌++◌, length, Some, None, refl, ap, ◌∙◌, subst, arith}
-use Rattle.std.specs.Prelude.{if◌then◌else◌, decimal}
-use Rattle.std.specs.List.{AllByRecursion}
-use Rattle.std.specs.Option.{option_and_then}
+use Rattle.std.{specs.Prelude.{if◌then◌else◌, decimal}, specs.List.{AllByRecursion}, specs.Option.{option_and_then}, proofs.lemmas.Slice.Eq.{bytes_eq-Decides}}
 use lib.ListN.{length-append}
-use Rattle.std.proofs.lemmas.Slice.Eq.{bytes_eq-Decides}
-use Rattle.ledger_text.specs.Text.{field_text, fields_text, commit_text, commit_of, AreShort, ReadsBack}
-use Rattle.ledger_text.specs.Records.{Said, fields_of, numbers_of, ReadsRecords}
-use Rattle.ledger_run.specs.Meaning.{event_of, event_in, event_behind, timed_event}
-use Rattle.ledger_run.specs.Senders.{sent_by, sent_of, sent_head, sent_in}
+use Rattle.ledger_text.specs.{Text.{field_text, fields_text, commit_text, commit_of, AreShort, ReadsBack}, Records.{Said, fields_of, numbers_of, ReadsRecords}}
+use Rattle.ledger_run.specs.{Meaning.{event_of, event_in, event_behind, timed_event}, Senders.{sent_by, sent_of, sent_head, sent_in}}
 
 -- ---- what is short as a whole is so in its parts
 

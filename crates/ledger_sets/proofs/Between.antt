@@ -1,38 +1,19 @@
 -- The changes between two catalogues make the one of the other: those that are met stand before the ones that are still to come.
 use Rattle.std.proofs.Common.{◌≡◌, ℕ, zero, suc, ◌+◌, nat_eq, nat_le, Bool, true, false, cond, ◌&&◌, ◌||◌, List, [], ◌∷◌, ◌++◌, length, take, drop, map, Option, Some, None, is_some, option_map, Result, Ok, refl, sym, ap, ◌∙◌, subst, arith, append-nil, append_assoc, true≢false}
-use Rattle.std.specs.Prelude.{if◌then◌else◌, ◌==◌}
-use Rattle.std.specs.Option.{option_and_then}
-use Rattle.std.specs.List.{AllByRecursion, IsDistinct, common_prefix_len, list_any}
-use Rattle.std.specs.Map.{keys_of}
-use Rattle.std.specs.Cmp.Lexicographic.{pointwise, bytes_decides, nat_list_eq_equiv}
-use Rattle.std.specs.Str.Lines.{lines}
-use Rattle.std.proofs.lemmas.Bool.Decides.{nat_tests}
-use Rattle.std.proofs.lemmas.List.{take-append-drop}
-use Rattle.std.proofs.lemmas.List.Sums.{common_prefix_len-le}
-use Rattle.std.proofs.lemmas.Map.Keys.{IsDistinct-head, IsDistinct-tail}
-use Rattle.mon_text.specs.Lines.{IsLine}
-use Rattle.mon_text.specs.declared.stop.Stop.{Stop}
+use Rattle.std.specs.{Prelude.{if◌then◌else◌, ◌==◌}, Option.{option_and_then}, List.{AllByRecursion, IsDistinct, common_prefix_len, list_any}, Map.{keys_of}}
+use Rattle.std.specs.{Cmp.Lexicographic.{pointwise, bytes_decides, nat_list_eq_equiv}, Str.Lines.{lines}}
+use Rattle.std.proofs.lemmas.{Bool.Decides.{nat_tests}, List.{take-append-drop}, List.Sums.{common_prefix_len-le}, Map.Keys.{IsDistinct-head, IsDistinct-tail}}
+use Rattle.mon_text.specs.{Lines.{IsLine}, declared.stop.Stop.{Stop}}
 use Rattle.mon_acl.specs.declared.entries.Entry.{Entry}
-use Rattle.acl_text.specs.Printing.{short_form}
-use Rattle.acl_text.proofs.Whole.{one_form}
-use Rattle.mon_catalogue.specs.declared.mode.Mode.{Mode}
-use Rattle.mon_catalogue.specs.declared.mode.Mode.TheVariants.{Seq, Append}
-use Rattle.mon_catalogue.specs.declared.version.Version.TheVariants.{Two}
-use Rattle.mon_catalogue.specs.declared.data_set.DataSet.{DataSet}
-use Rattle.mon_catalogue.specs.declared.loading.CatalogueError.{CatalogueError}
-use Rattle.mon_catalogue.specs.Modes.{mode_word}
-use Rattle.mon_catalogue.specs.Sets.{Sets, find_set, NamesDiffer}
-use Rattle.mon_catalogue.specs.Changes.{without_set, with_changed}
-use Rattle.mon_catalogue.specs.Reading.{catalogue_of}
+use Rattle.acl_text.{specs.Printing.{short_form}, proofs.Whole.{one_form}}
+use Rattle.mon_catalogue.specs.declared.{mode.Mode.{Mode}, mode.Mode.TheVariants.{Seq, Append}, version.Version.TheVariants.{Two}}
+use Rattle.mon_catalogue.specs.{declared.data_set.DataSet.{DataSet}, declared.loading.CatalogueError.{CatalogueError}, Modes.{mode_word}}
+use Rattle.mon_catalogue.specs.{Sets.{Sets, find_set, NamesDiffer}, Changes.{without_set, with_changed}, Reading.{catalogue_of}, Text.{set_line, text_of}}
 use Rattle.mon_catalogue.specs.Stored.{IsStoredSet, ArePrintable}
-use Rattle.mon_catalogue.specs.Text.{set_line, text_of}
-use Rattle.mon_catalogue.proofs.Back.{catalogue_reads_back}
-use Rattle.mon_catalogue.proofs.Bytes.{lines_of_text}
-use Rattle.mon_catalogue.proofs.Printable.{catalogue_lines_show}
+use Rattle.mon_catalogue.proofs.{Back.{catalogue_reads_back}, Bytes.{lines_of_text}, Printable.{catalogue_lines_show}}
 use Rattle.ledger_text.specs.Records.{Said, Keep}
-use Rattle.ledger_sets.specs.Changes.{head_text, whole, gone, shared, kept, same_head, changed, changes_between}
+use Rattle.ledger_sets.specs.{Changes.{head_text, whole, gone, shared, kept, same_head, changed, changes_between}, Laws.{ChangesLead}}
 use Rattle.ledger_sets.specs.Applying.{Site, with_sets, kept_as, keeping, put_set, setting, after_said, after_all}
-use Rattle.ledger_sets.specs.Laws.{ChangesLead}
 
 left : (a b : Bool) → (a || b) ≡ false → a ≡ false
 left false b h = refl

@@ -1,13 +1,8 @@
 -- What is written at the place of a name is what the change says.
 use Rattle.std.proofs.Common.{◌≡◌, ℕ, nat_eq, nat_le, ◌≤◌, Bool, true, false, cond, List, [], ◌∷◌, ◌++◌, length, Option, Some, None, is_some, slice_get, sym, ap, ◌∙◌, arith}
-use Rattle.std.specs.Prelude.{if◌then◌else◌}
-use Rattle.std.specs.Option.{option_and_then}
-use Rattle.std.specs.Cmp.Lexicographic.{pointwise, nat_list_eq_equiv}
+use Rattle.std.specs.{Prelude.{if◌then◌else◌}, Option.{option_and_then}, Cmp.Lexicographic.{pointwise, nat_list_eq_equiv}}
 use Rattle.std.proofs.lemmas.Bool.Decides.{nat_tests}
-use Rattle.mon_catalogue.specs.declared.data_set.DataSet.{DataSet}
-use Rattle.mon_catalogue.specs.Sets.{Sets, find_set}
-use Rattle.mon_catalogue.specs.Changes.{with_changed}
-use Rattle.mon_catalogue.proofs.Changing.{changed_there}
+use Rattle.mon_catalogue.{specs.declared.data_set.DataSet.{DataSet}, specs.Sets.{Sets, find_set}, specs.Changes.{with_changed}, proofs.Changing.{changed_there}}
 use Rattle.ledger_sets.specs.Applying.{kept_as, keeping, put_set}
 
 pub keeps : (given name : List ℕ) (first : ℕ) (ls : List (List ℕ)) (sets : Sets) (set new : DataSet) → name ≡ given → Some set ≡ find_set name sets

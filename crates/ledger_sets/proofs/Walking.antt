@@ -1,17 +1,11 @@
 -- From one data set to the next.
 use Rattle.std.proofs.Common.{◌≡◌, ℕ, zero, suc, ◌+◌, ◌≤◌, ◌<◌, nat_eq, Bool, true, false, List, [], ◌∷◌, ◌++◌, length, map, drop, Some, None, slice_get, refl, sym, ap, ◌∙◌, arith, append_assoc, ◌⊎◌, inl, inr, nat_le}
-use Rattle.std.specs.Prelude.{if◌then◌else◌, min}
-use Rattle.std.proofs.Math.Nat.{min-eq_left, min-eq_right}
-use Rattle.std.proofs.lemmas.Bool.Decides.{nat_tests}
-use Rattle.std.specs.List.{common_prefix_len}
-use Rattle.std.specs.Cmp.Lexicographic.{pointwise}
-use Rattle.std.proofs.lemmas.List.{map-append, drop_all}
+use Rattle.std.specs.{Prelude.{if◌then◌else◌, min}, List.{common_prefix_len}, Cmp.Lexicographic.{pointwise}}
+use Rattle.std.proofs.{Math.Nat.{min-eq_left, min-eq_right}, lemmas.Bool.Decides.{nat_tests}, lemmas.List.{map-append, drop_all}}
 use Rattle.std.proofs.lemmas.Option.{slice_get_cases}
-use Rattle.mon_catalogue.specs.declared.data_set.DataSet.{DataSet}
-use Rattle.mon_catalogue.specs.Sets.{Sets}
+use Rattle.mon_catalogue.specs.{declared.data_set.DataSet.{DataSet}, Sets.{Sets}}
 use Rattle.ledger_text.specs.Records.{Said}
-use Rattle.ledger_sets.specs.Changes.{whole, gone, changed, changes_between, said_text}
-use Rattle.ledger_sets.specs.Writing.{said_texts}
+use Rattle.ledger_sets.specs.{Changes.{whole, gone, changed, changes_between, said_text}, Writing.{said_texts}}
 
 there : {A : Type 0} (i : ℕ) (xs : List A) (x : A) → Some x ≡ slice_get xs i → drop i xs ≡ x ∷ drop (suc i) xs
 there zero [] x is = cc

@@ -1,11 +1,8 @@
 -- What is written of changes does what they do; cut off it does nothing.
 use Rattle.std.proofs.Common.{◌≡◌, ℕ, ◌<◌, ◌^◌, List, [], ◌∷◌, map, Option, Some, None, refl, ap, ◌∙◌, arith}
-use Rattle.std.specs.Option.{option_and_then}
-use Rattle.std.specs.List.{AllByRecursion}
-use Rattle.ledger_text.specs.Text.{commit_of, AreShort, ReadsBack, RefusesParts}
-use Rattle.ledger_text.specs.Records.{Said, fields_of, said_of, numbers_of, ReadsRecords}
-use Rattle.ledger_sets.specs.Changes.{said_text, change_text}
-use Rattle.ledger_sets.specs.Applying.{Site, after_said, after_all, after_timed, after_field, after_fields, after_change}
+use Rattle.std.specs.{Option.{option_and_then}, List.{AllByRecursion}}
+use Rattle.ledger_text.specs.{Text.{commit_of, AreShort, ReadsBack, RefusesParts}, Records.{Said, fields_of, said_of, numbers_of, ReadsRecords}}
+use Rattle.ledger_sets.specs.{Changes.{said_text, change_text}, Applying.{Site, after_said, after_all, after_timed, after_field, after_fields, after_change}}
 use Rattle.ledger_sets.specs.Laws.{TextsLead, PartsAreRefused}
 
 -- a text that is not empty

@@ -1,8 +1,7 @@
 -- A stretch of an honest ledger is the run of its texts.
 use Rattle.std.proofs.Common.{◌≡◌, ℕ, List, [], ◌∷◌, ◌++◌, refl, sym, ap, ◌∙◌}
 use Rattle.ledger_laws.specs.Course.{Machine, Record, Took, Refused, Ran, Dropped, Edited, Noted, Kept, with_record, folded, AreHonest}
-use Rattle.ledger_stretches.specs.Stretches.{Course, and_printed, run_all, IsStretch, first_of, texts_in}
-use Rattle.ledger_stretches.specs.Laws.{RunsSo, EachStretchRuns}
+use Rattle.ledger_stretches.specs.{Stretches.{Course, and_printed, run_all, IsStretch, first_of, texts_in}, Laws.{RunsSo, EachStretchRuns}}
 
 module _ {Text Out State Change : Type 0} (machine : Machine Text Out State Change) where
   runs_so : (records : List (Record Text Out Change)) (kept : Kept Text Out State) → AreHonest machine records kept → IsStretch records → RunsSo machine records kept

@@ -2,8 +2,7 @@
 use Rattle.std.proofs.Common.{◌⊎◌, inl, inr, ℕ, List, [], ◌∷◌, ◌++◌, refl, subst}
 use Rattle.std.specs.List.{AllByRecursion}
 use Rattle.ledger_laws.specs.Course.{Machine, Record, Took, Refused, Ran, Dropped, Edited, Noted, Kept, behind_first, with_record}
-use Rattle.ledger_stretches.specs.Stretches.{first_of, text_in, texts_in, take_of, takes_of}
-use Rattle.ledger_stretches.specs.Laws.{IsIn, RunsWereTaken}
+use Rattle.ledger_stretches.specs.{Stretches.{first_of, text_in, texts_in, take_of, takes_of}, Laws.{IsIn, RunsWereTaken}}
 
 in_first : {A : Type 0} (x : A) (xs ys : List A) → IsIn x xs → IsIn x (xs ++ ys)
 in_first x [] ys is = absurd is

@@ -1,27 +1,15 @@
 -- Limits that are printed are read as themselves.
 use Rattle.std.proofs.Common.{◌≡◌, ℕ, ◌+◌, ◌<◌, ◌^◌, Bool, true, false, List, [], ◌∷◌, ◌++◌, map, length, Option, Some, None, Result, Ok, Err, if◌then◌else◌, refl, sym, ap, ◌∙◌}
-use Rattle.std.specs.Prelude.{decimal, codes}
-use Rattle.std.specs.Option.{option_map_or}
-use Rattle.std.specs.List.{list_all, AllByRecursion}
-use Rattle.std.specs.Str.Lines.{lines}
+use Rattle.std.specs.{Prelude.{decimal, codes}, Option.{option_map_or}, List.{list_all, AllByRecursion}, Str.Lines.{lines}}
 use Rattle.std.proofs.lemmas.List.Concat.{flat_map-append}
-use Rattle.mon_text.specs.Characters.{is_printable}
-use Rattle.mon_text.specs.Counts.{value_of}
-use Rattle.mon_text.specs.Lines.{is_nonempty, words}
-use Rattle.mon_text.proofs.Counted.{is_count_of, count_of_decimal}
-use Rattle.mon_text.proofs.WrittenLines.{lines_written}
+use Rattle.mon_text.specs.{Characters.{is_printable}, Counts.{value_of}, Lines.{is_nonempty, words}}
+use Rattle.mon_text.proofs.{Counted.{is_count_of, count_of_decimal}, WrittenLines.{lines_written}}
 use Rattle.preflight.specs.declared.quota.Limit.TheVariants.{Texts, Bytes, Jobs, Statements, Largest, Work, DataSets, Records}
 use Rattle.site_plan.specs.Walks.{is_skipped, and_then, at_line, walked}
-use Rattle.ledger_tables.specs.declared.limits.Bound.{Bound}
-use Rattle.ledger_tables.specs.declared.limits.Bound.TheVariants.{HandedIn, Seconds, Output}
-use Rattle.ledger_tables.specs.declared.limits.Given.{Given}
-use Rattle.ledger_tables.specs.declared.limits.Said.{Said}
-use Rattle.ledger_tables.specs.declared.limits.Said.TheVariants.{Gives}
-use Rattle.ledger_tables.specs.declared.limits.Limits.{Limits}
-use Rattle.ledger_tables.specs.declared.limits.LimitsFault.{LimitsFault}
-use Rattle.ledger_tables.specs.declared.limits.LimitsFault.TheVariants.{BadLine}
-use Rattle.ledger_tables.specs.Limits.{bound_name, bound_on, number_on, said_on, with_said, after_line, limits_in, given_by, given_line, demonstration_lines, limit_lines, limits_text, AreSmall, ReadsLimits}
+use Rattle.ledger_tables.specs.declared.limits.{Bound.{Bound}, Bound.TheVariants.{HandedIn, Seconds, Output}, Given.{Given}, Said.{Said}, Limits.{Limits}}
+use Rattle.ledger_tables.specs.declared.limits.{Said.TheVariants.{Gives}, LimitsFault.{LimitsFault}, LimitsFault.TheVariants.{BadLine}}
 use Rattle.ledger_tables.proofs.Printed.{HasNoBlank, two_words, digits_have_no_blank, digits_are_some, digits_show, both_show}
+use Rattle.ledger_tables.specs.Limits.{bound_name, bound_on, number_on, said_on, with_said, after_line, limits_in, given_by, given_line, demonstration_lines, limit_lines, limits_text, AreSmall, ReadsLimits}
 
 -- ---- the names
 

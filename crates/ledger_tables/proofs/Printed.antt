@@ -1,15 +1,9 @@
 -- Lines of two words, as they are printed: they say something, have these words, and are cut as they were written.
 use Rattle.std.proofs.Common.{◌≡◌, ℕ, suc, ◌<◌, ◌^◌, Bool, true, false, not, ◌&&◌, ◌||◌, ◌==◌, cond, filter, List, [], ◌∷◌, ◌++◌, length, refl, sym, ap, ◌∙◌, true≢false, arith}
-use Rattle.std.specs.Prelude.{decimal}
-use Rattle.std.specs.List.{list_all, slice_split, onto_first}
-use Rattle.std.proofs.lemmas.Bool.Decides.{nat_tests}
-use Rattle.std.proofs.lemmas.Fmt.{decimal_nonempty}
-use Rattle.std.proofs.lemmas.List.Folds.{list_all-append}
-use Rattle.std.proofs.lemmas.List.Splits.{slice_split-cons_no}
+use Rattle.std.specs.{Prelude.{decimal}, List.{list_all, slice_split, onto_first}}
+use Rattle.std.proofs.lemmas.{Bool.Decides.{nat_tests}, Fmt.{decimal_nonempty}, List.Folds.{list_all-append}, List.Splits.{slice_split-cons_no}}
 use borrow.Author.Tests.{eqb-true, ne_eqb}
-use Rattle.mon_text.specs.Characters.{is_blank, is_digit, is_letter, is_printable}
-use Rattle.mon_text.specs.Names.{IsName, is_name_character}
-use Rattle.mon_text.specs.Lines.{is_nonempty, words}
+use Rattle.mon_text.specs.{Characters.{is_blank, is_digit, is_letter, is_printable}, Names.{IsName, is_name_character}, Lines.{is_nonempty, words}}
 use Rattle.mon_text.proofs.Counted.{digits_of_decimal}
 use Rattle.site_plan.specs.Walks.{is_skipped}
 

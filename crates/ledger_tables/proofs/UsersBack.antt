@@ -1,21 +1,13 @@
 -- Users that are printed are read as themselves.
 use Rattle.std.proofs.Common.{◌≡◌, ℕ, ◌+◌, ◌-◌, ◌<◌, ◌^◌, Bool, true, ◌&&◌, nat_lt, List, [], ◌∷◌, map, length, Option, Some, None, option_map, Result, Ok, Err, is_ok, if◌then◌else◌, refl, sym, ap, ◌∙◌, true≢false, arith}
-use Rattle.std.specs.Prelude.{decimal, option_and_then}
-use Rattle.std.specs.Option.{option_map_or}
-use Rattle.std.specs.List.{list_all, AllByRecursion}
+use Rattle.std.specs.{Prelude.{decimal, option_and_then}, Option.{option_map_or}, List.{list_all, AllByRecursion}}
 use Rattle.std.proofs.lemmas.Bool.Decides.{nat_tests}
 use borrow.Author.Tests.{ne_eqb}
 use Rattle.mon_access.specs.declared.account.Account.{Account}
-use Rattle.mon_text.specs.Characters.{is_printable}
-use Rattle.mon_text.specs.Counts.{value_of}
-use Rattle.mon_text.specs.Lines.{words}
-use Rattle.mon_text.proofs.Counted.{is_count_of, count_of_decimal}
-use Rattle.mon_text.proofs.WrittenLines.{lines_written}
-use Rattle.site_plan.specs.declared.users.User.{User}
-use Rattle.site_plan.specs.declared.users.UsersFault.{UsersFault}
-use Rattle.site_plan.specs.declared.users.UsersFault.TheVariants.{BadLine, NoUser}
-use Rattle.site_plan.specs.Walks.{and_then, at_line, walked}
-use Rattle.site_plan.specs.Users.{name_on, uid_on, user_on, with_known, after_line, if_any, users_of}
+use Rattle.mon_text.specs.{Characters.{is_printable}, Counts.{value_of}, Lines.{words}}
+use Rattle.mon_text.proofs.{Counted.{is_count_of, count_of_decimal}, WrittenLines.{lines_written}}
+use Rattle.site_plan.specs.declared.users.{User.{User}, UsersFault.{UsersFault}, UsersFault.TheVariants.{BadLine, NoUser}}
+use Rattle.site_plan.specs.{Walks.{and_then, at_line, walked}, Users.{name_on, uid_on, user_on, with_known, after_line, if_any, users_of}}
 use Rattle.ledger_tables.specs.Users.{user_line, users_text, taken_behind, IsUser, ReadsUsers}
 use Rattle.ledger_tables.proofs.Printed.{two_words, digits_have_no_blank, digits_are_some, digits_are_not_skipped, digits_show, name_has_no_blank, name_is_some, name_shows, both_show}
 

@@ -1,10 +1,7 @@
 -- What is written is read as itself; what is cut off is refused.
 use Rattle.std.proofs.Common.{◌≡◌, ◌⊎◌, inl, inr, ◌<◌, ◌≤◌, ℕ, zero, suc, ◌+◌, ◌-◌, ◌*◌, ◌/◌, ◌%◌, ◌^◌, Bool, true, false, List, [], ◌∷◌, ◌++◌, length, Option, Some, None, refl, sym, ap, ◌∙◌, subst, arith}
-use Rattle.std.specs.Prelude.{if◌then◌else◌, ◌==◌, ◌&&◌, nat_le, nat_lt, bytes_eq, decimal}
-use Rattle.std.specs.List.{AllByRecursion}
-use Rattle.std.proofs.lemmas.Bool.Decides.{nat_tests}
-use Rattle.std.proofs.lemmas.Fmt.{decimal_by_steps}
-use Rattle.std.proofs.lemmas.Slice.Eq.{bytes_eq-Decides}
+use Rattle.std.specs.{Prelude.{if◌then◌else◌, ◌==◌, ◌&&◌, nat_le, nat_lt, bytes_eq, decimal}, List.{AllByRecursion}}
+use Rattle.std.proofs.lemmas.{Bool.Decides.{nat_tests}, Fmt.{decimal_by_steps}, Slice.Eq.{bytes_eq-Decides}}
 use Rattle.ledger_text.specs.Text.{field_text, fields_text, commit_text, read_number, with_byte, read_bytes, field_at, with_field, and_fields, read_fields, fields_at, whole, commit_of, AreShort, ReadsBack, RefusesParts, RefusesMore, IsChain, Collide, OneHistory}
 
 in_row : (xs ys zs : List ℕ) → (xs ++ ys) ++ zs ≡ xs ++ (ys ++ zs)

@@ -1,14 +1,9 @@
 -- What a record says is read of its fields.
 use Rattle.std.proofs.Common.{◌≡◌, ℕ, ◌+◌, ◌-◌, ◌*◌, ◌/◌, ◌%◌, ◌^◌, ◌<◌, ◌≤◌, Bool, true, ◌&&◌, nat_le, List, [], ◌∷◌, ◌++◌, length, Option, Some, None, if◌then◌else◌, refl, ap, ◌∙◌, option_map, arith}
-use Rattle.std.specs.Prelude.{decimal, codes}
-use Rattle.std.specs.Option.{option_and_then}
-use Rattle.std.specs.List.{list_all}
-use Rattle.std.proofs.lemmas.Fmt.{decimal_by_steps, decimal_nonempty, length-decimal-le}
-use Rattle.std.proofs.lemmas.List.Folds.{list_all-append}
+use Rattle.std.specs.{Prelude.{decimal, codes}, Option.{option_and_then}, List.{list_all}}
+use Rattle.std.proofs.lemmas.{Fmt.{decimal_by_steps, decimal_nonempty, length-decimal-le}, List.Folds.{list_all-append}}
 use borrow.Author.Tests.{le-leb}
-use Rattle.mon_text.specs.Characters.{is_digit}
-use Rattle.mon_text.specs.Counts.{is_count, value_of}
-use Rattle.mon_text.proofs.Digits.{read_on}
+use Rattle.mon_text.{specs.Characters.{is_digit}, specs.Counts.{is_count, value_of}, proofs.Digits.{read_on}}
 use Rattle.ledger_text.specs.Records.{Said, Took, Refused, Ran, Audit, Keep, Set, Gone, Dropped, Gave, Tables, Checked, Edit, count_of, short_of, long_of, set_of, file_with, file_of, rest_of, timed, said_of, ReadsRecords}
 
 -- ---- the digits of a number, and their value

@@ -1,7 +1,6 @@
 -- How bytes, numbers and fields are taken from the front of a text.
 use Rattle.std.proofs.Common.{◌≡◌, ◌<◌, ◌≤◌, ℕ, zero, suc, ◌+◌, ◌-◌, Bool, true, false, List, [], ◌∷◌, ◌++◌, length, take, drop, map, get_or, slice_index, Option, Some, None, refl, sym, ap, ◌∙◌, arith}
-use Rattle.std.specs.Prelude.{if◌then◌else◌, ◌==◌}
-use Rattle.std.proofs.lemmas.List.{take_all, take_more, length-drop, map-append}
+use Rattle.std.{specs.Prelude.{if◌then◌else◌, ◌==◌}, proofs.lemmas.List.{take_all, take_more, length-drop, map-append}}
 use Rattle.ledger_text.specs.Text.{field_text, fields_text, read_number, with_byte, read_bytes, field_at, with_field, and_fields, read_fields, whole}
 
 -- ---- bytes

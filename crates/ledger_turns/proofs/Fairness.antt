@@ -1,7 +1,6 @@
 -- The order of a round is fair.
 use Rattle.std.proofs.Common.{◌≡◌, ◌⊎◌, ℕ, ◌+◌, ◌≤◌, ◌%◌, zero, suc, List, [], ◌∷◌, ◌++◌, length, take, drop, get_or, sym, ap, ◌∙◌, subst, inl, inr, arith, take_all, take-append-drop, IsPermutation}
-use Rattle.std.proofs.lemmas.List.Concat.{flat_map-append}
-use Rattle.std.proofs.lemmas.List.Sorted.{IsPermutation-trans, IsPermutation-append_comm}
+use Rattle.std.proofs.lemmas.List.{Concat.{flat_map-append}, Sorted.{IsPermutation-trans, IsPermutation-append_comm}}
 use Rattle.ledger_turns.specs.Order.{longest, rotated, served, texts_of, AreQueuesFrom, IsAbreast, FairOrder}
 use Rattle.ledger_turns.proofs.Queues.{joined, IsAlone, owned, rotated_alone, its_queue}
 use Rattle.ledger_turns.proofs.Turns.{AreWithin, within_longest, all_taken, IsAt, turns_take, comes_to}

@@ -1,11 +1,8 @@
 -- Names in their order: the first of them are kept as they come, and none is lost.
 use Rattle.std.proofs.Common.{◌≡◌, ◌⊎◌, ℕ, zero, suc, ◌+◌, ◌<◌, ◌≤◌, Bool, true, false, nat_cmp, List, [], ◌∷◌, ◌++◌, map, take, if◌then◌else◌, Ordering, Less, Equal, Greater, refl, sym, ap, subst, ◌∙◌, inl, inr, arith, true≢false, IsPermutation}
-use Rattle.std.specs.List.{fold, insert}
-use Rattle.std.specs.Ordering.{is_lt, ordering_then, MatchOrdering}
-use Rattle.std.specs.Cmp.Lexicographic.{slice_cmp}
+use Rattle.std.specs.{List.{fold, insert}, Ordering.{is_lt, ordering_then, MatchOrdering}, Cmp.Lexicographic.{slice_cmp}, Cmp.{ranks}}
 use Rattle.std.proofs.lemmas.Bool.{cases_lt}
 use Rattle.std.proofs.lemmas.List.Sorted.{IsPermutation-refl, IsPermutation-trans, IsPermutation-cons, IsPermutation-sym, IsPermutation-middle}
-use Rattle.std.specs.Cmp.{ranks}
 use Rattle.ledger_turns.specs.Names.{is_before, with_name, place_from, in_order, kept_with, AreInOrder, KeepsFirst, FirstAreFirst}
 
 -- ---- the first so many

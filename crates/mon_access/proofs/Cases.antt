@@ -1,18 +1,11 @@
 -- Which case applies, and what is granted in it.
 use Rattle.std.proofs.Common.{◌≡◌, ℕ, Bool, true, false, ◌&&◌, List, refl, sym, subst, true≢false}
-use Rattle.std.specs.Prelude.{Any, Decides, ◌↔◌, if◌then◌else◌}
-use Rattle.std.specs.List.{list_any}
-use Rattle.std.proofs.lemmas.Bool.Decides.{Decides-and}
-use Rattle.mon_acl.specs.declared.entries.Perms.{Perms}
-use Rattle.mon_acl.specs.declared.entries.Tag.TheVariants.{UserObj, GroupObj, Mask, Other}
-use Rattle.mon_acl.specs.declared.entries.Entry.{Entry}
+use Rattle.std.{specs.Prelude.{Any, Decides, ◌↔◌, if◌then◌else◌}, specs.List.{list_any}, proofs.lemmas.Bool.Decides.{Decides-and}}
+use Rattle.mon_acl.specs.declared.entries.{Perms.{Perms}, Tag.TheVariants.{UserObj, GroupObj, Mask, Other}, Entry.{Entry}}
 use Rattle.mon_acl.specs.Entries.{has_tag}
-use Rattle.mon_access.specs.declared.account.Account.{Account}
-use Rattle.mon_access.specs.declared.access.Decision.TheVariants.{Granted, Denied}
-use Rattle.mon_access.specs.declared.access.Decider.{Decider}
-use Rattle.mon_access.specs.Matches.{is_owner, is_for_user, is_for_group, some_holds}
+use Rattle.mon_access.specs.declared.{account.Account.{Account}, access.Decision.TheVariants.{Granted, Denied}, access.Decider.{Decider}}
+use Rattle.mon_access.specs.{Matches.{is_owner, is_for_user, is_for_group, some_holds}, FourCases.{IsOf, IsForUser, IsForGroup, SomeHolds, Applies, Grants}}
 use Rattle.mon_access.specs.AccessCheck.{Case, Owner, NamedUser, InGroup, Others, case_of, grants, decision_in, decision}
-use Rattle.mon_access.specs.FourCases.{IsOf, IsForUser, IsForGroup, SomeHolds, Applies, Grants}
 use Rattle.mon_access.specs.Laws.{ExactlyOneCaseApplies, GrantsByItsCase}
 use Rattle.mon_access.proofs.Meanings.{refuted, fails, any_Decides, has_tag-Decides, is_owner-Decides, is_for_user-Decides, is_for_group-Decides, some_holds-Decides}
 

@@ -1,22 +1,12 @@
 -- Other permissions in the entries of one type change nothing for an account that is judged by entries of other types.
 use Rattle.std.proofs.Common.{◌≡◌, ℕ, ◌+◌, Bool, true, false, not, cond, ◌||◌, ◌&&◌, ◌⊎◌, inl, inr, List, [], ◌∷◌, refl, sym, subst, ◌∙◌, true≢false}
-use Rattle.std.specs.Prelude.{if◌then◌else◌}
-use Rattle.std.specs.List.{list_any, position_or_len}
-use Rattle.std.specs.Option.{option_map_or}
-use Rattle.mon_acl.specs.declared.entries.Perms.{Perms}
-use Rattle.mon_acl.specs.declared.entries.Tag.{Tag}
-use Rattle.mon_acl.specs.declared.entries.Tag.TheVariants.{UserObj, User, GroupObj, Group, Mask, Other}
-use Rattle.mon_acl.specs.declared.entries.Entry.{Entry}
-use Rattle.mon_acl.specs.Entries.{is_tag, has_tag}
-use Rattle.mon_acl.specs.Permissions.{holds}
-use Rattle.mon_access.specs.declared.account.Account.{Account}
-use Rattle.mon_access.specs.Matches.{is_owner, is_in_group, is_for_user, is_for_group, some_holds}
+use Rattle.std.specs.{Prelude.{if◌then◌else◌}, List.{list_any, position_or_len}, Option.{option_map_or}}
+use Rattle.mon_acl.specs.{declared.entries.Perms.{Perms}, declared.entries.Tag.{Tag}, declared.entries.Entry.{Entry}, Entries.{is_tag, has_tag}}
+use Rattle.mon_acl.specs.{declared.entries.Tag.TheVariants.{UserObj, User, GroupObj, Group, Mask, Other}, Permissions.{holds}}
+use Rattle.mon_access.specs.{declared.account.Account.{Account}, Matches.{is_owner, is_in_group, is_for_user, is_for_group, some_holds}, FourCases.{Applies}}
 use Rattle.mon_access.specs.AccessCheck.{Case, Owner, NamedUser, InGroup, Others, case_of, decision_in, decision}
-use Rattle.mon_access.specs.FourCases.{Applies}
 use Rattle.mon_access.specs.Laws.{HasEntry, with_perms, MaskSparesOwnerAndOthers}
-use Rattle.mon_access.proofs.Meanings.{refuted, is_tag-Decides, is_owner-Decides}
-use Rattle.mon_access.proofs.Cases.{applies_once}
-use Rattle.mon_access.proofs.Smaller.{both}
+use Rattle.mon_access.proofs.{Meanings.{refuted, is_tag-Decides, is_owner-Decides}, Cases.{applies_once}, Smaller.{both}}
 
 -- an entry has one type
 pub one_type : (t u v : Tag) → is_tag u v ≡ false → is_tag t u ≡ true → is_tag t v ≡ false

@@ -1,11 +1,7 @@
 -- Counts of kinds of entries, and what a valid list has.
 use Rattle.std.proofs.Common.{◌≡◌, ◌+◌, ◌<◌, Bool, true, false, cond, ◌||◌, List, [], ◌∷◌, refl, sym, ◌∙◌, true≢false, arith}
-use Rattle.std.specs.Prelude.{count_by}
-use Rattle.std.specs.List.{list_any}
-use Rattle.std.proofs.lemmas.List.Sums.{sum_by-cons}
-use Rattle.mon_acl.specs.declared.entries.Tag.TheVariants.{Mask}
-use Rattle.mon_acl.specs.declared.entries.Entry.{Entry}
-use Rattle.mon_acl.specs.Entries.{has_tag, is_named, IsValidAcl}
+use Rattle.std.{specs.Prelude.{count_by}, specs.List.{list_any}, proofs.lemmas.List.Sums.{sum_by-cons}}
+use Rattle.mon_acl.specs.{declared.entries.Tag.TheVariants.{Mask}, declared.entries.Entry.{Entry}, Entries.{has_tag, is_named, IsValidAcl}}
 
 count_by-cons : {X : Type 0} (p : X → Bool) (x : X) (xs : List X) → count_by p (x ∷ xs) ≡ cond (p x) 1 0 + count_by p xs
 count_by-cons p x xs = sum_by-cons (λ y. cond (p y) 1 0) x xs

@@ -1,33 +1,20 @@
 -- What a grant to a member of a group rests on, and what a denial names.
 use Rattle.std.proofs.Common.{◌≡◌, ◌≢◌, ℕ, ◌<◌, Bool, true, false, ◌||◌, ◌&&◌, inl, inr, List, length, get_or, Option, None, Some, refl, sym, ap, subst, nat_cmp, Ordering, Less, Equal, Greater, ◌∙◌, true≢false, arith, nat_lt}
-use Rattle.std.specs.Prelude.{Any, Decides, IsSomeAnd, IfSome, slice_get, if◌then◌else◌}
-use Rattle.std.specs.List.{list_any, position_or_len}
-use Rattle.std.specs.Cmp.{ranks}
-use Rattle.std.specs.Ordering.{MatchOrdering}
-use Rattle.std.specs.Option.{option_map_or}
-use Rattle.std.proofs.lemmas.Bool.Decides.{nat_tests}
-use Rattle.std.proofs.lemmas.List.Folds.{Any-from_list_any, list_any-from_Any}
-use Rattle.std.proofs.lemmas.List.Sums.{fails_before_first, passes_at_first}
+use Rattle.std.specs.{Prelude.{Any, Decides, IsSomeAnd, IfSome, slice_get, if◌then◌else◌}, List.{list_any, position_or_len}, Cmp.{ranks}}
+use Rattle.std.specs.{Ordering.{MatchOrdering}, Option.{option_map_or}}
+use Rattle.std.proofs.lemmas.{Bool.Decides.{nat_tests}, List.Folds.{Any-from_list_any, list_any-from_Any}, List.Sums.{fails_before_first, passes_at_first}}
 use Rattle.std.proofs.lemmas.Option.{slice_get-get_or, get_or_from_slice_get}
-use Rattle.mon_acl.specs.declared.entries.Perms.{Perms}
-use Rattle.mon_acl.specs.declared.entries.Tag.TheVariants.{UserObj, User, GroupObj, Group, Mask, Other}
-use Rattle.mon_acl.specs.declared.entries.Entry.{Entry}
-use Rattle.mon_acl.specs.Entries.{has_tag, is_named, IsValidAcl}
-use Rattle.mon_acl.specs.Permissions.{holds}
-use Rattle.mon_access.specs.declared.account.Account.{Account}
-use Rattle.mon_access.specs.declared.access.Decision.TheVariants.{Granted, Denied}
-use Rattle.mon_access.specs.declared.access.Decider.{Decider}
+use Rattle.mon_acl.specs.{declared.entries.Perms.{Perms}, declared.entries.Tag.TheVariants.{UserObj, User, GroupObj, Group, Mask, Other}, Permissions.{holds}}
+use Rattle.mon_acl.specs.{declared.entries.Entry.{Entry}, Entries.{has_tag, is_named, IsValidAcl}}
+use Rattle.mon_access.specs.declared.{account.Account.{Account}, access.Decision.TheVariants.{Granted, Denied}, access.Decider.{Decider}}
 use Rattle.mon_access.specs.declared.access.Decider.TheVariants.{UserObj as ByUserObj, User as ByUser, Group as ByGroup, Mask as ByMask, Other as ByOther}
 use Rattle.mon_access.specs.Matches.{is_in_group, is_for_user, is_for_group, some_holds}
 use Rattle.mon_access.specs.AccessCheck.{Case, Owner, NamedUser, InGroup, Others, case_of, grants, decider, decision_in, decision}
 use Rattle.mon_access.specs.FourCases.{IsOf, IsForUser, IsForGroup, Lacks, SomeHolds, Applies, Grants}
 use Rattle.mon_access.specs.Laws.{HasEntry, NeverFallsThrough, MaskLimitsNamedEntriesAndGroups, GroupsAreNotJoined, IsRightDecider, DecidersLackThePart}
 use Rattle.mon_access.proofs.Meanings.{refuted, fails, has_tag-Decides, is_for_user-Decides, is_for_group-Decides, some_holds-Decides}
-use Rattle.mon_access.proofs.Places.{list_any_by_place}
-use Rattle.mon_access.proofs.Counts.{any_from_one, masked_by, unnamed}
-use Rattle.mon_access.proofs.Smaller.{both, both_pass, any_less, any_more}
-use Rattle.mon_access.proofs.Cases.{any_user, any_group, case_applies, applies_once, denied_is, grants-Decides, grants_by_case}
-use Rattle.mon_access.proofs.Changes.{Spares, spared}
+use Rattle.mon_access.proofs.{Places.{list_any_by_place}, Counts.{any_from_one, masked_by, unnamed}, Smaller.{both, both_pass, any_less, any_more}}
+use Rattle.mon_access.proofs.{Cases.{any_user, any_group, case_applies, applies_once, denied_is, grants-Decides, grants_by_case}, Changes.{Spares, spared}}
 
 -- an account with an entry is not one of all others
 judged : (account : Account) (owner group : List ℕ) (entries : List Entry) → HasEntry account group entries → case_of account owner group entries ≢ Others

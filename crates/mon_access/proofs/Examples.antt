@@ -1,12 +1,7 @@
 -- The access check on lists worked by hand: what `decision` computes.
 use Rattle.std.specs.Prelude.{◌≡◌, ℕ, true, false, List, [], ◌∷◌, Some, None, codes, refl}
-use Rattle.mon_acl.specs.declared.entries.Perms.{Perms}
-use Rattle.mon_acl.specs.declared.entries.Tag.{Tag}
-use Rattle.mon_acl.specs.declared.entries.Tag.TheVariants.{UserObj, User, GroupObj, Group, Mask, Other}
-use Rattle.mon_acl.specs.declared.entries.Entry.{Entry}
-use Rattle.mon_access.specs.declared.account.Account.{Account}
-use Rattle.mon_access.specs.declared.access.Decision.{Decision}
-use Rattle.mon_access.specs.declared.access.Decision.TheVariants.{Granted, Denied}
+use Rattle.mon_acl.specs.declared.entries.{Perms.{Perms}, Tag.{Tag}, Tag.TheVariants.{UserObj, User, GroupObj, Group, Mask, Other}, Entry.{Entry}}
+use Rattle.mon_access.specs.declared.{account.Account.{Account}, access.Decision.{Decision}, access.Decision.TheVariants.{Granted, Denied}}
 use Rattle.mon_access.specs.declared.access.Decider.TheVariants.{UserObj as ByUserObj, User as ByUser, Group as ByGroup, Mask as ByMask, Other as ByOther}
 use Rattle.mon_access.specs.AccessCheck.{decision}
 

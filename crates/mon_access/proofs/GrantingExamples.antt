@@ -1,13 +1,8 @@
 -- Lists worked by hand: what `granting` computes.
 use Rattle.std.specs.Prelude.{◌≡◌, ℕ, true, false, List, [], ◌∷◌, Option, Some, None, codes, refl}
-use Rattle.mon_acl.specs.declared.entries.Perms.{Perms}
-use Rattle.mon_acl.specs.declared.entries.Tag.{Tag}
+use Rattle.mon_acl.specs.{declared.entries.Perms.{Perms}, declared.entries.Tag.{Tag}, declared.entries.Entry.{Entry}, Permissions.{to_read as r, to_write as w}}
 use Rattle.mon_acl.specs.declared.entries.Tag.TheVariants.{UserObj, User, GroupObj, Group, Mask, Other}
-use Rattle.mon_acl.specs.declared.entries.Entry.{Entry}
-use Rattle.mon_acl.specs.Permissions.{to_read as r, to_write as w}
-use Rattle.mon_access.specs.declared.account.Account.{Account}
-use Rattle.mon_access.specs.AccessCheck.{decision}
-use Rattle.mon_access.specs.Granting.{granting}
+use Rattle.mon_access.specs.{declared.account.Account.{Account}, AccessCheck.{decision}, Granting.{granting}}
 
 abbrev anna : Account
 anna = record { name = codes "anna"; primary = codes "admin"; groups = [] }

@@ -1,20 +1,11 @@
 -- The entry that is found in a list in canonical order is all that there is of a kind.
 use Rattle.std.proofs.Common.{◌≡◌, ◌∙◌, ℕ, zero, suc, ◌+◌, ◌<◌, Bool, true, false, ◌&&◌, ◌||◌, true≢false, List, [], ◌∷◌, length, get_or, refl, sym, ap, arith, nat_cmp, is_eq, Ordering, Less, Equal, Greater, HoldsAt, IsTrue, None}
-use Rattle.std.specs.List.{list_any, position_or_len}
-use Rattle.std.specs.Cmp.{ranks}
-use Rattle.std.specs.Cmp.Lexicographic.{slice_cmp, texts_ties, nat_list_cmp_total}
+use Rattle.std.specs.{List.{list_any, position_or_len}, Cmp.{ranks}, Cmp.Lexicographic.{slice_cmp, texts_ties, nat_list_cmp_total}}
 use Rattle.std.specs.Ordering.{ordering_reverse, MatchOrdering}
-use Rattle.std.proofs.lemmas.List.Folds.{list_any_none, list_any_at}
-use Rattle.std.proofs.lemmas.Map.Keys.{Less-from_sorted}
-use Rattle.mon_acl.specs.declared.entries.Perms.{Perms}
-use Rattle.mon_acl.specs.declared.entries.Tag.{Tag}
-use Rattle.mon_acl.specs.declared.entries.Tag.TheVariants.{Mask}
-use Rattle.mon_acl.specs.declared.entries.Entry.{Entry}
-use Rattle.mon_acl.specs.Entries.{rank, sort_key, compared, is_for, IsCanonical}
-use Rattle.mon_acl.specs.Permissions.{holds}
-use Rattle.mon_access.specs.declared.finding.Found.{Found}
-use Rattle.mon_access.specs.declared.finding.Found.TheVariants.{Nobody, Lacking, Holding}
-use Rattle.mon_access.specs.Matches.{some_holds}
+use Rattle.std.proofs.lemmas.{List.Folds.{list_any_none, list_any_at}, Map.Keys.{Less-from_sorted}}
+use Rattle.mon_acl.specs.declared.entries.{Perms.{Perms}, Tag.{Tag}, Tag.TheVariants.{Mask}, Entry.{Entry}}
+use Rattle.mon_acl.specs.{Entries.{rank, sort_key, compared, is_for, IsCanonical}, Permissions.{holds}}
+use Rattle.mon_access.specs.{declared.finding.Found.{Found}, declared.finding.Found.TheVariants.{Nobody, Lacking, Holding}, Matches.{some_holds}}
 use Rattle.mon_access.specs.inner.Kinds.{found, found_of, judged, stands_at}
 
 abbrev AllFail : (Entry → Bool) → List Entry → Type 0

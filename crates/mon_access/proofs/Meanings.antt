@@ -1,22 +1,12 @@
 -- The tests on entries say what the relations say.
 use Rattle.std.proofs.Common.{◌≡◌, ℕ, Bool, true, false, cond, List, Option, None, Some, refl, sym, ap, subst, ◌∙◌, true≢false}
-use Rattle.std.specs.Prelude.{Any, ◌==◌, bytes_eq, Decides}
-use Rattle.std.specs.List.{list_any}
-use Rattle.std.specs.Option.{option_map_or}
-use Rattle.std.specs.Cmp.Lexicographic.{nat_list_eq_equiv}
-use Rattle.std.proofs.lemmas.Bool.Decides.{Decides-and, Decides-or, Decides-eqb}
-use Rattle.std.proofs.lemmas.List.Folds.{Any-from_list_any, list_any-from_Any}
-use Rattle.std.proofs.lemmas.Map.Views.{list_any-from_Contains}
-use Rattle.std.proofs.lemmas.Slice.Eq.{bytes_eq-Decides}
+use Rattle.std.specs.{Prelude.{Any, ◌==◌, bytes_eq, Decides}, List.{list_any}, Option.{option_map_or}, Cmp.Lexicographic.{nat_list_eq_equiv}}
+use Rattle.std.proofs.lemmas.{Bool.Decides.{Decides-and, Decides-or, Decides-eqb}, List.Folds.{Any-from_list_any, list_any-from_Any}}
+use Rattle.std.proofs.lemmas.{Map.Views.{list_any-from_Contains}, Slice.Eq.{bytes_eq-Decides}}
 use Rattle.indexmap.proofs.CallerLemmas.{Contains-list_any}
-use Rattle.mon_acl.specs.declared.entries.Perms.{Perms}
-use Rattle.mon_acl.specs.declared.entries.Tag.{Tag}
-use Rattle.mon_acl.specs.declared.entries.Tag.TheVariants.{UserObj, User, GroupObj, Group, Mask, Other}
-use Rattle.mon_acl.specs.declared.entries.Entry.{Entry}
-use Rattle.mon_acl.specs.Entries.{rank, is_tag, has_tag}
-use Rattle.mon_acl.specs.Permissions.{holds}
-use Rattle.mon_access.specs.declared.account.Account.{Account}
-use Rattle.mon_access.specs.Matches.{is_owner, is_in_group, is_for_user, is_for_group, some_holds}
+use Rattle.mon_acl.specs.{declared.entries.Perms.{Perms}, declared.entries.Tag.{Tag}, declared.entries.Entry.{Entry}, Entries.{rank, is_tag, has_tag}}
+use Rattle.mon_acl.specs.{declared.entries.Tag.TheVariants.{UserObj, User, GroupObj, Group, Mask, Other}, Permissions.{holds}}
+use Rattle.mon_access.specs.{declared.account.Account.{Account}, Matches.{is_owner, is_in_group, is_for_user, is_for_group, some_holds}}
 use Rattle.mon_access.specs.FourCases.{IsInGroup, IsOf, IsForUser, IsForGroup, SomeHolds}
 
 -- a test that fails refutes, and what is refuted fails

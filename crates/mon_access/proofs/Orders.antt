@@ -1,13 +1,9 @@
 -- Two lists of the same entries grant alike.
 use Rattle.std.proofs.Common.{ℕ, List}
 use Rattle.std.specs.Prelude.{Any, Contains}
-use Rattle.mon_acl.specs.declared.entries.Perms.{Perms}
-use Rattle.mon_acl.specs.declared.entries.Entry.{Entry}
-use Rattle.mon_access.specs.declared.account.Account.{Account}
-use Rattle.mon_access.specs.AccessCheck.{Case, Owner, NamedUser, InGroup, Others, case_of}
-use Rattle.mon_access.specs.FourCases.{Applies, Grants}
-use Rattle.mon_access.specs.Laws.{HaveSameEntries, OrderGrantsNothing}
-use Rattle.mon_access.proofs.Cases.{case_applies, grants_by_case}
+use Rattle.mon_acl.specs.declared.entries.{Perms.{Perms}, Entry.{Entry}}
+use Rattle.mon_access.specs.{declared.account.Account.{Account}, AccessCheck.{Case, Owner, NamedUser, InGroup, Others, case_of}}
+use Rattle.mon_access.{specs.FourCases.{Applies, Grants}, specs.Laws.{HaveSameEntries, OrderGrantsNothing}, proofs.Cases.{case_applies, grants_by_case}}
 
 any_same : (P : Entry → Type 0) (entries others : List Entry) → ((e : Entry) → Contains entries e → Contains others e) → Any P entries → Any P others
 any_same P entries others into (k, x, within, at, is) = let (j, within', at') = into x (k, within, at) in (j, x, within', at', is)

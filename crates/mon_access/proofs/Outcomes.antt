@@ -1,20 +1,12 @@
 -- What is decided, by what the entries of a kind say.
 use Rattle.std.proofs.Common.{◌≡◌, ℕ, Bool, true, false, ◌&&◌, List, refl}
-use Rattle.std.specs.Prelude.{if◌then◌else◌}
-use Rattle.std.specs.List.{list_any, position_or_len}
-use Rattle.mon_acl.specs.declared.entries.Perms.{Perms}
-use Rattle.mon_acl.specs.declared.entries.Tag.TheVariants.{GroupObj, Mask, Other}
-use Rattle.mon_acl.specs.declared.entries.Entry.{Entry}
-use Rattle.mon_acl.specs.Entries.{has_tag}
-use Rattle.mon_acl.specs.Permissions.{holds}
-use Rattle.mon_access.specs.declared.account.Account.{Account}
-use Rattle.mon_access.specs.declared.access.Decision.TheVariants.{Granted, Denied}
+use Rattle.std.specs.{Prelude.{if◌then◌else◌}, List.{list_any, position_or_len}}
+use Rattle.mon_acl.specs.declared.entries.{Perms.{Perms}, Tag.TheVariants.{GroupObj, Mask, Other}, Entry.{Entry}}
+use Rattle.mon_acl.specs.{Entries.{has_tag}, Permissions.{holds}}
+use Rattle.mon_access.{specs.declared.account.Account.{Account}, specs.declared.access.Decision.TheVariants.{Granted, Denied}, proofs.Smaller.{both, any_less}}
 use Rattle.mon_access.specs.declared.access.Decider.TheVariants.{User as ByUser, Group as ByGroup, Mask as ByMask, Other as ByOther}
-use Rattle.mon_access.specs.declared.finding.Found.TheVariants.{Nobody, Lacking, Holding}
-use Rattle.mon_access.specs.Matches.{is_for_user, is_for_group, some_holds}
-use Rattle.mon_access.specs.inner.Kinds.{found, found_of}
-use Rattle.mon_access.specs.inner.Deciding.{decision_beside_owner, decision_beside_users}
-use Rattle.mon_access.proofs.Smaller.{both, any_less}
+use Rattle.mon_access.specs.{declared.finding.Found.TheVariants.{Nobody, Lacking, Holding}, Matches.{is_for_user, is_for_group, some_holds}}
+use Rattle.mon_access.specs.inner.{Kinds.{found, found_of}, Deciding.{decision_beside_owner, decision_beside_users}}
 
 module _ (kind : Entry → Bool) (es : List Entry) (request : Perms) where
   some_of_kind : some_holds kind es request ≡ true → list_any kind es ≡ true

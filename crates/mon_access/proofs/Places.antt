@@ -1,7 +1,6 @@
 -- The first place of a kind of entry.
 use Rattle.std.proofs.Common.{◌≡◌, ℕ, Bool, true, false, List, [], ◌∷◌, length, None, Some, position, nat_lt, refl, arith, ◌∙◌}
-use Rattle.std.specs.List.{list_any, position_or_len}
-use Rattle.std.proofs.lemmas.Bool.Decides.{nat_tests}
+use Rattle.std.{specs.List.{list_any, position_or_len}, proofs.lemmas.Bool.Decides.{nat_tests}}
 
 -- an element passes exactly where the first place lies within the list
 pub list_any_by_place : {X : Type 0} (p : X → Bool) (xs : List X) → list_any p xs ≡ nat_lt (position_or_len p xs) (length xs)

@@ -1,29 +1,16 @@
 -- The entry that is named is the right one.
 use Rattle.std.proofs.Common.{◌≡◌, ℕ, zero, suc, ◌+◌, ◌<◌, Bool, true, false, ◌&&◌, List, [], ◌∷◌, Option, None, Some, refl, sym, ap, ◌∙◌, subst, true≢false, arith}
-use Rattle.std.specs.Prelude.{◌↔◌, Decides, IsSome, IsSomeAnd, IfSome, slice_get, position, if◌then◌else◌, Any}
-use Rattle.std.specs.List.{list_any, position_from}
-use Rattle.std.proofs.lemmas.Iterator.Adapters.{position_from-zero}
-use Rattle.std.proofs.lemmas.Bool.Decides.{Decides-and}
-use Rattle.mon_acl.specs.declared.entries.Perms.{Perms}
-use Rattle.mon_acl.specs.declared.entries.Tag.{Tag}
-use Rattle.mon_acl.specs.declared.entries.Tag.TheVariants.{UserObj, GroupObj, Mask, Other}
-use Rattle.mon_acl.specs.declared.entries.Entry.{Entry}
-use Rattle.mon_acl.specs.Entries.{has_tag}
-use Rattle.mon_acl.specs.Permissions.{holds}
-use Rattle.mon_access.specs.declared.account.Account.{Account}
-use Rattle.mon_access.specs.declared.access.Decision.{Decision}
-use Rattle.mon_access.specs.declared.access.Decider.{Decider}
-use Rattle.mon_access.specs.declared.access.Decision.TheVariants.{Granted, Denied}
-use Rattle.mon_access.specs.Matches.{is_for_user, is_for_group, some_holds}
+use Rattle.std.specs.{Prelude.{◌↔◌, Decides, IsSome, IsSomeAnd, IfSome, slice_get, position, if◌then◌else◌, Any}, List.{list_any, position_from}}
+use Rattle.std.proofs.lemmas.{Iterator.Adapters.{position_from-zero}, Bool.Decides.{Decides-and}}
+use Rattle.mon_acl.specs.declared.entries.{Perms.{Perms}, Tag.{Tag}, Tag.TheVariants.{UserObj, GroupObj, Mask, Other}}
+use Rattle.mon_acl.specs.{declared.entries.Entry.{Entry}, Entries.{has_tag}, Permissions.{holds}}
+use Rattle.mon_access.specs.{declared.account.Account.{Account}, declared.access.Decision.{Decision}, declared.access.Decider.{Decider}, Laws.{GrantsByItsCase}}
+use Rattle.mon_access.specs.{declared.access.Decision.TheVariants.{Granted, Denied}, Matches.{is_for_user, is_for_group, some_holds}}
 use Rattle.mon_access.specs.AccessCheck.{Case, Owner, NamedUser, InGroup, Others, case_of, grants, decider, decision_in, decision}
-use Rattle.mon_access.specs.FourCases.{IsOf, IsForUser, IsForGroup, Holds, SomeHolds, Grants}
-use Rattle.mon_access.proofs.Meanings.{refuted, fails, any_Decides, has_tag-Decides, is_for_user-Decides, is_for_group-Decides, some_holds-Decides}
-use Rattle.mon_access.proofs.Places.{position-Some, position-None}
-use Rattle.mon_access.proofs.Cases.{applies_once}
-use Rattle.mon_access.specs.Laws.{GrantsByItsCase}
-use Rattle.mon_access.specs.Granting.{may_grant, holder, granting}
-use Rattle.mon_access.proofs.Naming.{if_granted}
 use Rattle.mon_access.specs.GrantingLaws.{IsFirstToHold, IsRightGrantor, GrantsByTheEntry, NamedWhereGranted, NamesAnEntry}
+use Rattle.mon_access.proofs.Meanings.{refuted, fails, any_Decides, has_tag-Decides, is_for_user-Decides, is_for_group-Decides, some_holds-Decides}
+use Rattle.mon_access.specs.{FourCases.{IsOf, IsForUser, IsForGroup, Holds, SomeHolds, Grants}, Granting.{may_grant, holder, granting}}
+use Rattle.mon_access.proofs.{Places.{position-Some, position-None}, Cases.{applies_once}, Naming.{if_granted}}
 
 -- THE FIRST OF A LIST
 

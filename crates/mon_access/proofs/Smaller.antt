@@ -1,16 +1,10 @@
 -- What holds a request holds each smaller one.
 use Rattle.std.proofs.Common.{◌≡◌, ℕ, Bool, true, false, not, ◌||◌, ◌&&◌, List, [], ◌∷◌, refl, sym, true≢false}
 use Rattle.std.specs.List.{list_any}
-use Rattle.mon_acl.specs.declared.entries.Perms.{Perms}
-use Rattle.mon_acl.specs.declared.entries.Tag.TheVariants.{GroupObj, Mask}
-use Rattle.mon_acl.specs.declared.entries.Entry.{Entry}
-use Rattle.mon_acl.specs.Entries.{has_tag}
+use Rattle.mon_acl.specs.{declared.entries.Perms.{Perms}, declared.entries.Tag.TheVariants.{GroupObj, Mask}, declared.entries.Entry.{Entry}, Entries.{has_tag}}
 use Rattle.mon_acl.specs.Permissions.{holds}
-use Rattle.mon_access.specs.declared.account.Account.{Account}
-use Rattle.mon_access.specs.Matches.{is_for_group, some_holds}
-use Rattle.mon_access.specs.AccessCheck.{Case, Owner, NamedUser, InGroup, Others, case_of, grants, decision}
-use Rattle.mon_access.specs.Laws.{GrantsSmallerRequests}
-use Rattle.mon_access.proofs.Cases.{granted_is}
+use Rattle.mon_access.specs.{declared.account.Account.{Account}, Matches.{is_for_group, some_holds}, Laws.{GrantsSmallerRequests}}
+use Rattle.mon_access.{specs.AccessCheck.{Case, Owner, NamedUser, InGroup, Others, case_of, grants, decision}, proofs.Cases.{granted_is}}
 
 -- both tests pass
 pub both : (a b : Bool) → (a && b) ≡ true → (a ≡ true) × (b ≡ true)

@@ -1,14 +1,8 @@
 -- What holds of a map from names to accounts, each account under its own name.
 use Rattle.std.proofs.Common.{◌≡◌, ℕ, List, [], ◌∷◌, ◌++◌, ◌∙◌, None, refl, sym, ap, subst}
-use Rattle.std.specs.Prelude.{bytes_eq}
-use Rattle.std.specs.List.{IsDistinct}
-use Rattle.std.specs.Map.{keys_of, lookup}
-use Rattle.indexmap.specs.IndexMap.{IndexMap, get, insert_entry}
-use Rattle.indexmap.proofs.CallerLemmas.{insert_entry-new}
-use Rattle.std.proofs.lemmas.List.{map-append}
-use Rattle.mon_access.specs.declared.account.Account.{Account}
-use Rattle.mon_access.specs.Accounts.{find_account, names_of}
-use Rattle.mon_access.specs.inner.Layout.{accounts_of, IsTable}
+use Rattle.std.{specs.Prelude.{bytes_eq}, specs.List.{IsDistinct}, specs.Map.{keys_of, lookup}, proofs.lemmas.List.{map-append}}
+use Rattle.indexmap.{specs.IndexMap.{IndexMap, get, insert_entry}, proofs.CallerLemmas.{insert_entry-new}}
+use Rattle.mon_access.specs.{declared.account.Account.{Account}, Accounts.{find_account, names_of}, inner.Layout.{accounts_of, IsTable}}
 
 -- the look-up by key is the table's entry of that name
 pub lookup-accounts_of : (name : List ℕ) (entries : List (List ℕ × Account)) → keys_of entries ≡ names_of (accounts_of entries)

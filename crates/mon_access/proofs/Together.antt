@@ -1,22 +1,13 @@
 -- Kinds of entries, joined, and told by where an entry stands.
 use Rattle.std.proofs.Common.{◌≡◌, ◌∙◌, ℕ, suc, ◌+◌, ◌<◌, min, Bool, true, false, cond, not, ◌&&◌, ◌||◌, ◌==◌, List, [], ◌∷◌, length, get_or, take, drop, refl, sym, ap, ap₂, arith, nat_eq, nat_lt, true≢false, Option, None, Some, bytes_eq, All, take-append-drop}
-use Rattle.std.specs.List.{list_any, position_or_len}
-use Rattle.std.specs.Option.{option_map_or, unwrap_or}
-use Rattle.std.specs.Cmp.Lexicographic.{pointwise, nat_list_eq_equiv, texts_ties}
-use Rattle.std.proofs.lemmas.Bool.Decides.{nat_tests}
-use Rattle.std.proofs.lemmas.List.Folds.{list_any_more, list_any-append}
-use Rattle.mon_acl.specs.declared.entries.Perms.{Perms}
-use Rattle.mon_acl.specs.declared.entries.Tag.{Tag}
+use Rattle.std.specs.{List.{list_any, position_or_len}, Option.{option_map_or, unwrap_or}, Cmp.Lexicographic.{pointwise, nat_list_eq_equiv, texts_ties}}
+use Rattle.std.proofs.lemmas.{Bool.Decides.{nat_tests}, List.Folds.{list_any_more, list_any-append}}
+use Rattle.mon_acl.specs.{declared.entries.Perms.{Perms}, declared.entries.Tag.{Tag}, declared.entries.Entry.{Entry}, Permissions.{holds}}
 use Rattle.mon_acl.specs.declared.entries.Tag.TheVariants.{UserObj, User, GroupObj, Group, Mask, Other}
-use Rattle.mon_acl.specs.declared.entries.Entry.{Entry}
 use Rattle.mon_acl.specs.Entries.{rank, has_tag, qualifier, is_qualified, sort_key, IsEntry}
-use Rattle.mon_acl.specs.Permissions.{holds}
-use Rattle.mon_access.specs.declared.account.Account.{Account}
-use Rattle.mon_access.specs.declared.finding.Found.{Found}
-use Rattle.mon_access.specs.declared.finding.Found.TheVariants.{Lacking, Holding}
-use Rattle.mon_access.specs.Matches.{is_in_group, is_for_owning_group, is_for_named_group, is_for_group, some_holds}
+use Rattle.mon_access.specs.declared.{account.Account.{Account}, finding.Found.{Found}, finding.Found.TheVariants.{Lacking, Holding}}
+use Rattle.mon_access.{specs.Matches.{is_in_group, is_for_owning_group, is_for_named_group, is_for_group, some_holds}, proofs.Places.{list_any_by_place}}
 use Rattle.mon_access.specs.inner.Kinds.{found, found_of, joined, stands_at, is_for_one_of, is_so_far}
-use Rattle.mon_access.proofs.Places.{list_any_by_place}
 
 -- ---- kinds that the elements of a list do not tell apart
 abbrev Same : {X : Type 0} → (X → Bool) → (X → Bool) → List X → Type 0

@@ -1,8 +1,6 @@
 -- What is asked of permissions, as their bits answer it.
-use Rattle.std.specs.Prelude.{◌≡◌, refl, ℕ, ◌<◌, nat_eq}
-use Rattle.std.specs.Int.RustNames.{bit_and}
-use Rattle.mon_acl.specs.Permissions.{holds, common}
-use Rattle.mon_acl.specs.inner.Bits.{rights_of, each}
+use Rattle.std.specs.{Prelude.{◌≡◌, refl, ℕ, ◌<◌, nat_eq}, Int.RustNames.{bit_and}}
+use Rattle.mon_acl.specs.{Permissions.{holds, common}, inner.Bits.{rights_of, each}}
 
 -- what holds of any two of the numbers 0 to 7
 each_two : (P : ℕ → ℕ → Type 0) → ((b : ℕ) → b < 8 → P 0 b) → ((b : ℕ) → b < 8 → P 1 b) → ((b : ℕ) → b < 8 → P 2 b) → ((b : ℕ) → b < 8 → P 3 b)

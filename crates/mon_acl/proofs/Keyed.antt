@@ -1,25 +1,13 @@
 -- What keys tell of entries, and how they are chained.
 use Rattle.std.proofs.Common.{◌≡◌, ◌≢◌, ◌∙◌, ap, ap₂, sym, subst, refl, ℕ, zero, suc, ◌+◌, ◌*◌, ◌<◌, ◌≤◌, Bool, true, false, cond, ◌&&◌, ◌||◌, List, [], ◌∷◌, length, map, get_or, arith, true≢false, nat_eq, nat_le, Option, Some, None, ◌⊎◌, inl, inr, set, replicate}
-use Rattle.std.specs.Prelude.{count_by, slice_index}
-use Rattle.std.specs.List.{list_any, list_all}
-use Rattle.std.specs.Cmp.Lexicographic.{pointwise, nat_list_eq_equiv, bytes_decides}
-use Rattle.std.specs.Slice.Scan.{big_endian}
-use Rattle.std.proofs.lemmas.Bool.Decides.{Decides-eqb, nat_tests}
-use Rattle.std.proofs.lemmas.Bool.{cases_lt}
-use Rattle.std.proofs.lemmas.List.{length-map, get_or-map, get_or-set_other}
-use Rattle.std.proofs.lemmas.Grind.{get_or-set_at}
-use Rattle.std.proofs.lemmas.List.Folds.{list_any_none}
-use Rattle.mon_text.specs.Characters.{is_letter}
-use Rattle.mon_text.specs.Names.{is_name_character, is_name, first_of, head_of}
-use Rattle.mon_text.proofs.Padding.{seven}
-use Rattle.mon_acl.specs.declared.entries.Tag.{Tag}
-use Rattle.mon_acl.specs.declared.entries.Tag.TheVariants.{UserObj, User, GroupObj, Group, Mask, Other}
-use Rattle.mon_acl.specs.declared.entries.Entry.{Entry}
+use Rattle.std.specs.{Prelude.{count_by, slice_index}, List.{list_any, list_all}, Cmp.Lexicographic.{pointwise, nat_list_eq_equiv, bytes_decides}}
+use Rattle.std.specs.{Slice.Scan.{big_endian}, Option.{unwrap_or}}
+use Rattle.std.proofs.lemmas.{Bool.Decides.{Decides-eqb, nat_tests}, Bool.{cases_lt}, List.{length-map, get_or-map, get_or-set_other}, Grind.{get_or-set_at}}
+use Rattle.std.proofs.lemmas.List.{Folds.{list_any_none}, Sums.{sum_by-cons}}
+use Rattle.mon_text.{specs.Characters.{is_letter}, specs.Names.{is_name_character, is_name, first_of, head_of}, proofs.Padding.{seven}}
+use Rattle.mon_acl.specs.declared.entries.Tag.{Tag, TheVariants.{UserObj, User, GroupObj, Group, Mask, Other}}
+use Rattle.mon_acl.specs.{declared.entries.Entry.{Entry}, inner.Keys.{key_of, key_in, keys_of, bucket_of, IsIndexOfKey}, inner.Chains.{IsLast, IsChained}}
 use Rattle.mon_acl.specs.Entries.{rank, is_tag, has_tag, is_named, sort_key, is_for, qualifier, is_qualified, IsEntry, IsValidAcl, IsIndexOf}
-use Rattle.mon_acl.specs.inner.Keys.{key_of, key_in, keys_of, bucket_of, IsIndexOfKey}
-use Rattle.mon_acl.specs.inner.Chains.{IsLast, IsChained}
-use Rattle.std.proofs.lemmas.List.Sums.{sum_by-cons}
-use Rattle.std.specs.Option.{unwrap_or}
 
 -- ---- names are bytes
 abbrev pub AreBytes : List ℕ → Type 0

@@ -1,13 +1,8 @@
 -- What a change of one set makes of the look-ups and the names.
 use Rattle.std.proofs.Common.{◌≡◌, ◌≢◌, ℕ, nat_eq, Bool, true, false, cond, not, filter, List, [], ◌∷◌, None, Some, Option, option_map, refl, sym, ap, subst, ◌∙◌}
-use Rattle.std.specs.List.{AllByRecursion}
-use Rattle.std.specs.Cmp.Lexicographic.{pointwise, bytes_decides, nat_list_eq_equiv}
-use Rattle.std.specs.Map.{keys_of}
-use Rattle.std.proofs.lemmas.Map.{lookup-remove_entry}
-use Rattle.std.proofs.lemmas.Map.Keys.{IsDistinct-head, IsDistinct-tail}
-use Rattle.mon_catalogue.specs.declared.data_set.DataSet.{DataSet}
-use Rattle.mon_catalogue.specs.Sets.{Sets, find_set, NamesDiffer}
-use Rattle.mon_catalogue.specs.Changes.{without_set, with_changed}
+use Rattle.std.specs.{List.{AllByRecursion}, Cmp.Lexicographic.{pointwise, bytes_decides, nat_list_eq_equiv}, Map.{keys_of}}
+use Rattle.std.proofs.lemmas.Map.{lookup-remove_entry, Keys.{IsDistinct-head, IsDistinct-tail}}
+use Rattle.mon_catalogue.specs.{declared.data_set.DataSet.{DataSet}, Sets.{Sets, find_set, NamesDiffer}, Changes.{without_set, with_changed}}
 use Rattle.mon_catalogue.specs.Laws.{OtherSetsStay, NamedSetChanges, OrderStays}
 
 -- a name that is another's is no key of it

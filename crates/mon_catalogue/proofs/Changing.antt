@@ -1,14 +1,9 @@
 -- A change at the place of a name is a change of the set of that name.
 use Rattle.std.proofs.Common.{◌≡◌, ℕ, zero, suc, nat_eq, nat_lt, Bool, true, false, cond, not, List, [], ◌∷◌, ◌+◌, length, None, Some, position, refl, sym, ap, subst, ◌∙◌, arith}
-use Rattle.std.specs.List.{position_or_len}
-use Rattle.std.specs.Cmp.Lexicographic.{pointwise}
-use Rattle.std.specs.Map.{keys_of}
+use Rattle.std.specs.{List.{position_or_len, IsDistinct}, Cmp.Lexicographic.{pointwise}, Map.{keys_of}}
 use Rattle.indexmap.specs.IndexMap.{set_value_at}
-use Rattle.std.specs.List.{IsDistinct}
 use Rattle.mon_acl.specs.declared.entries.Entry.{Entry}
-use Rattle.mon_catalogue.specs.declared.data_set.DataSet.{DataSet}
-use Rattle.mon_catalogue.specs.Sets.{Sets, find_set, IsCatalogue}
-use Rattle.mon_catalogue.specs.Changes.{with_changed, with_acl}
+use Rattle.mon_catalogue.specs.{declared.data_set.DataSet.{DataSet}, Sets.{Sets, find_set, IsCatalogue}, Changes.{with_changed, with_acl}}
 use Rattle.mon_catalogue.proofs.Shorthand.{listed}
 
 keys_stay : (sets : Sets) (i : ℕ) (set : DataSet) → keys_of (set_value_at sets i set) ≡ keys_of sets

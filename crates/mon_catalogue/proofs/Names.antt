@@ -1,11 +1,8 @@
 -- Names that differ.
 use Rattle.std.proofs.Common.{◌≡◌, ℕ, nat_eq, Bool, true, false, cond, ◌||◌, List, [], ◌∷◌, ◌++◌, Option, None, Some, is_some, refl, ap, ◌∙◌, true≢false}
-use Rattle.std.specs.List.{IsDistinct, AllByRecursion, list_any}
-use Rattle.std.specs.Map.{keys_of}
-use Rattle.std.specs.Cmp.Lexicographic.{pointwise, nat_list_eq_equiv}
+use Rattle.std.specs.{List.{IsDistinct, AllByRecursion, list_any}, Map.{keys_of}, Cmp.Lexicographic.{pointwise, nat_list_eq_equiv}}
 use Rattle.std.proofs.lemmas.Map.Keys.{IsDistinct-head, IsDistinct-tail}
-use Rattle.mon_catalogue.specs.declared.data_set.DataSet.{DataSet}
-use Rattle.mon_catalogue.specs.Sets.{Sets, find_set}
+use Rattle.mon_catalogue.specs.{declared.data_set.DataSet.{DataSet}, Sets.{Sets, find_set}}
 
 -- a set is found exactly where its name is among the names
 pub any_name : (name : List ℕ) (sets : Sets) → is_some (find_set name sets) ≡ list_any (pointwise nat_eq name) (keys_of sets)

@@ -1,13 +1,9 @@
 -- The parts of a catalogue's text, put to a sink one behind the other.
 use Rattle.std.proofs.Common.{◌≡◌, ◌∙◌, ap, sym, ℕ, List, [], ◌∷◌, ◌++◌, length, append_assoc}
 use Rattle.std.specs.Prelude.{codes, decimal}
-use Rattle.mon_device.specs.Putting.{Standing, Puts}
-use Rattle.mon_device.proofs.Putting.{puts_same, puts_then}
+use Rattle.mon_device.{specs.Putting.{Standing, Puts}, proofs.Putting.{puts_same, puts_then}}
 use Rattle.acl_text.specs.Printing.{short_form}
-use Rattle.mon_catalogue.specs.declared.data_set.DataSet.{DataSet}
-use Rattle.mon_catalogue.specs.Modes.{mode_word}
-use Rattle.mon_catalogue.specs.Sets.{Sets}
-use Rattle.mon_catalogue.specs.Text.{set_line, set_lines, text_of, catalogue_text}
+use Rattle.mon_catalogue.specs.{declared.data_set.DataSet.{DataSet}, Modes.{mode_word}, Sets.{Sets}, Text.{set_line, set_lines, text_of, catalogue_text}}
 use Rattle.mon_catalogue.proofs.Texts.{catalogue_text_cons}
 
 -- a blank and a word behind what was put

@@ -1,15 +1,8 @@
 -- Parts of the definitions by names of their own.
-use Rattle.std.specs.Prelude.{ℕ, List, Option}
-use Rattle.std.specs.List.{fold}
-use Rattle.std.specs.Option.{option_map_or}
+use Rattle.std.specs.{Prelude.{ℕ, List, Option}, List.{fold}, Option.{option_map_or}}
 use Rattle.mon_acl.specs.declared.entries.Entry.{Entry}
-use Rattle.mon_catalogue.specs.declared.version.Version.{Version}
-use Rattle.mon_catalogue.specs.declared.data_set.DataSet.{DataSet}
-use Rattle.mon_catalogue.specs.declared.head.Head.{Head}
-use Rattle.mon_catalogue.specs.declared.loading.CatalogueError.{CatalogueError}
-use Rattle.mon_catalogue.specs.declared.loading.CatalogueError.TheVariants.{BadText}
-use Rattle.mon_catalogue.specs.Sets.{Sets}
-use Rattle.mon_catalogue.specs.Head.{head_refusal}
+use Rattle.mon_catalogue.specs.{declared.version.Version.{Version}, declared.data_set.DataSet.{DataSet}, declared.head.Head.{Head}, Sets.{Sets}}
+use Rattle.mon_catalogue.specs.{declared.loading.CatalogueError.{CatalogueError}, declared.loading.CatalogueError.TheVariants.{BadText}, Head.{head_refusal}}
 use Rattle.mon_catalogue.specs.Progress.{Progress, Refused, ListDue, step}
 
 -- where the reading stands after these lines

@@ -1,9 +1,7 @@
 -- Texts of one set or line more.
 use Rattle.std.proofs.Common.{◌≡◌, ℕ, List, [], ◌∷◌, ◌++◌}
 use Rattle.std.proofs.lemmas.List.Concat.{flat_map-append}
-use Rattle.mon_catalogue.specs.declared.data_set.DataSet.{DataSet}
-use Rattle.mon_catalogue.specs.Sets.{Sets}
-use Rattle.mon_catalogue.specs.Text.{catalogue_text, catalogue_lines, set_lines, text_of}
+use Rattle.mon_catalogue.specs.{declared.data_set.DataSet.{DataSet}, Sets.{Sets}, Text.{catalogue_text, catalogue_lines, set_lines, text_of}}
 
 pub text_of_append : (ls ms : List (List ℕ)) → text_of (ls ++ ms) ≡ text_of ls ++ text_of ms
 text_of_append ls ms = flat_map-append (λ (line : List ℕ). line ++ 10 ∷ []) ls ms

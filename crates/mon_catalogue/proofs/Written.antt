@@ -1,13 +1,7 @@
 -- What is left of records, and what is written behind it, are records.
 use Rattle.std.proofs.Common.{◌≡◌, ℕ, ◌-◌, ◌^◌, ◌<◌, ◌≤◌, Option, None, Some, Bool, true, false, ◌&&◌, List, [], ◌∷◌, ◌++◌, length, refl, sym, ap, ◌∙◌, arith}
-use Rattle.std.specs.Prelude.{IsTrue, take, drop}
-use Rattle.std.specs.List.{list_all}
-use Rattle.std.specs.Prelude.{IfSome, slice_get}
-use Rattle.std.specs.Option.{option_map}
-use Rattle.std.proofs.lemmas.Option.{slice_get_within}
-use Rattle.std.proofs.lemmas.List.{take-append-drop, length-take, length-append}
-use Rattle.std.proofs.lemmas.Bool.{le-leb}
-use Rattle.std.proofs.lemmas.List.Folds.{list_all-append}
+use Rattle.std.specs.{Prelude.{IsTrue, take, drop, IfSome, slice_get}, List.{list_all}, Option.{option_map}}
+use Rattle.std.proofs.lemmas.{Option.{slice_get_within}, List.{take-append-drop, length-take, length-append}, Bool.{le-leb}, List.Folds.{list_all-append}}
 use Rattle.mon_catalogue.specs.Records.{is_record, AreRecords}
 
 first_of : (a b : Bool) → (a && b) ≡ true → a ≡ true

@@ -1,26 +1,18 @@
 -- The data sets change exactly where a change is asked and granted, and no other set than the one that is named.
 use Rattle.std.proofs.Common.{◌≡◌, ◌≢◌, ℕ, List, [], Option, Some, None, Result, Ok, Err, refl, sym, ap, ◌∙◌}
-use Rattle.mon_access.specs.declared.account.Account.{Account}
-use Rattle.mon_access.specs.Accounts.{find_account}
-use Rattle.mon_catalogue.specs.declared.catalogue.CreateError.{CreateError}
+use Rattle.mon_access.specs.{declared.account.Account.{Account}, Accounts.{find_account}}
+use Rattle.mon_catalogue.specs.{declared.catalogue.CreateError.{CreateError}, Sets.{Sets, find_set}}
 use Rattle.mon_catalogue.specs.declared.catalogue.CreateError.TheVariants as create
-use Rattle.mon_catalogue.specs.Sets.{Sets, find_set}
 use Rattle.interaction.specs.declared.answer.Reason.{Reason}
-use Rattle.mon_guard.specs.declared.answer.AclAnswer.{AclAnswer}
+use Rattle.mon_guard.specs.{declared.answer.AclAnswer.{AclAnswer}, Views.{records_lent, acl_lent, names_lent}, Owning.{removed, acl_set, created}}
 use Rattle.mon_guard.specs.declared.answer.AclAnswer.TheVariants as acl
-use Rattle.acl_text.specs.declared.text.AclText.{AclText}
-use Rattle.acl_text.specs.declared.text.AclText.TheVariants.{Short}
-use Rattle.mon_guard.specs.Views.{records_lent, acl_lent, names_lent}
-use Rattle.mon_guard.specs.Owning.{removed, acl_set, created}
+use Rattle.acl_text.specs.declared.text.AclText.{AclText, TheVariants.{Short}}
 use Rattle.mon_guard.specs.Laws as guard
-use Rattle.deck_lines.specs.declared.command.Command.{Command}
+use Rattle.deck_lines.specs.{declared.command.Command.{Command}, Commands.{account_of}}
 use Rattle.deck_lines.specs.declared.command.Command.TheVariants.{Create, Delete, SetAcl, ShowAcl, List as Listing, Catalog}
-use Rattle.mon_command.specs.declared.reply.Reply.{Reply}
-use Rattle.mon_command.specs.declared.reply.Reply.TheVariants.{Done, Denied, NameTaken, CatalogueFull, BadList}
-use Rattle.deck_lines.specs.Commands.{account_of}
+use Rattle.mon_command.specs.declared.reply.Reply.{Reply, TheVariants.{Done, Denied, NameTaken, CatalogueFull, BadList}}
+use Rattle.mon_command.{specs.Laws.{IsKnown, Changes, done, ChangesWhereGranted, IsNamed, OtherSetsStay}, proofs.Shorthand.{served_if_known}}
 use Rattle.mon_command.specs.Commanded.{Answer, Told, Records, Shown, Names, Served, told_by, creation_reply, removal_reply, acl_reply, shown_as, served, answered}
-use Rattle.mon_command.specs.Laws.{IsKnown, Changes, done, ChangesWhereGranted, IsNamed, OtherSetsStay}
-use Rattle.mon_command.proofs.Shorthand.{served_if_known}
 
 pub answered_known : (accounts : List Account) (sets : Sets) (command : Command) (account : Account) → IsKnown accounts command account
     → answered accounts sets command ≡ served account command sets

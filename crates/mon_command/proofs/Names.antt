@@ -1,18 +1,11 @@
 -- The names that are shown of one set more.
 use Rattle.std.proofs.Common.{◌≡◌, ℕ, ◌+◌, ◌<◌, ◌≤◌, Bool, true, false, List, [], ◌∷◌, ◌++◌, length, map, take, Option, Some, None, slice_get, sym, ap, ◌∙◌, refl, append_assoc, inl, inr, arith, length-append, lit≤, cond, if◌then◌else◌}
-use Rattle.std.specs.List.{flat_map}
-use Rattle.std.specs.Option.{option_map_or}
-use Rattle.std.proofs.lemmas.List.{take_more, map-append}
-use Rattle.std.proofs.lemmas.List.Concat.{flat_map-append}
-use Rattle.std.proofs.lemmas.List.Elements.{filter-append}
-use Rattle.std.proofs.lemmas.Option.{slice_get_cases}
+use Rattle.std.specs.{List.{flat_map}, Option.{option_map_or}}
+use Rattle.std.proofs.lemmas.{List.{take_more, map-append}, List.Concat.{flat_map-append}, List.Elements.{filter-append}, Option.{slice_get_cases}}
 use Rattle.mon_access.specs.declared.account.Account.{Account}
-use Rattle.mon_catalogue.specs.declared.data_set.DataSet.{DataSet}
-use Rattle.mon_catalogue.specs.Sets.{Sets}
-use Rattle.mon_guard.specs.Deciding.{may_be_shown}
-use Rattle.mon_guard.specs.Views.{NamePart, name_part, name_of, names_shown, names_lent}
-use Rattle.mon_command.specs.Printouts.{name_line}
-use Rattle.mon_command.specs.inner.Names.{one_or_none, shown_at}
+use Rattle.mon_catalogue.specs.{declared.data_set.DataSet.{DataSet}, Sets.{Sets}}
+use Rattle.mon_guard.specs.{Deciding.{may_be_shown}, Views.{NamePart, name_part, name_of, names_shown, names_lent}}
+use Rattle.mon_command.specs.{Printouts.{name_line}, inner.Names.{one_or_none, shown_at}}
 
 -- the set at a place, alone, if there is one
 abbrev alone : Option (List ℕ × DataSet) → Sets

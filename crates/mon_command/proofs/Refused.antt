@@ -3,9 +3,7 @@ use Rattle.std.proofs.Common.{◌≡◌, Result, Ok, Err, IfOk, ap, ◌∙◌}
 use Rattle.mon_catalogue.specs.Sets.{Sets}
 use Rattle.mon_guard.specs.declared.answer.AclAnswer.{AclAnswer}
 use Rattle.deck_lines.specs.declared.command.Command.{Command}
-use Rattle.mon_command.specs.declared.printout.Answered.{Answered}
-use Rattle.mon_command.specs.Commanded.{Told, told_by, acl_reply, printed}
-use Rattle.mon_command.specs.Saying.{said_of}
+use Rattle.mon_command.specs.{declared.printout.Answered.{Answered}, Commanded.{Told, told_by, acl_reply, printed}, Saying.{said_of}}
 use Rattle.mon_command.specs.inner.Serving.{Answers, Serves}
 
 pub refused : {E : Type 0} (command : Command) (result : Result Answered E) (old new : Sets) (answer : AclAnswer) (s : AclAnswer × Sets) → answer ≡ s.0 → s.1 ≡ old → new ≡ s.1 → IfOk result (λ answered. Answers command answered (Told (acl_reply answer))) → Serves command result old new (told_by acl_reply s)

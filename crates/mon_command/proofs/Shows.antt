@@ -1,27 +1,18 @@
 -- Records, lists and names are shown exactly where they may be, and every denial says why.
 use Rattle.std.proofs.Common.{◌≡◌, ◌≢◌, ◌++◌, ◌∷◌, ℕ, List, Option, Some, None, Result, Ok, Err, sym, ap, ◌∙◌}
-use Rattle.mon_access.specs.declared.account.Account.{Account}
-use Rattle.mon_access.specs.Accounts.{find_account}
-use Rattle.mon_acl.specs.declared.refusals.AclError.{AclError}
-use Rattle.mon_acl.specs.declared.entries.Entry.{Entry}
-use Rattle.mon_catalogue.specs.declared.catalogue.CreateError.{CreateError}
+use Rattle.mon_access.specs.{declared.account.Account.{Account}, Accounts.{find_account}}
+use Rattle.mon_acl.specs.declared.{refusals.AclError.{AclError}, entries.Entry.{Entry}}
+use Rattle.mon_catalogue.specs.{declared.catalogue.CreateError.{CreateError}, Sets.{Sets}}
 use Rattle.mon_catalogue.specs.declared.catalogue.CreateError.TheVariants as create
-use Rattle.mon_catalogue.specs.Sets.{Sets}
 use Rattle.interaction.specs.declared.answer.Reason.{Reason}
-use Rattle.acl_text.specs.declared.text.AclText.{AclText}
-use Rattle.acl_text.specs.Forms.{list_of_text}
-use Rattle.mon_guard.specs.Views.{AclPart, records_lent, acl_lent, names_lent}
-use Rattle.mon_guard.specs.Owning.{owner_denial, created}
-use Rattle.mon_guard.specs.inner.Parts.{given, acl_set_unless}
-use Rattle.mon_guard.specs.Laws as guard
-use Rattle.deck_lines.specs.declared.command.Command.{Command}
-use Rattle.deck_lines.specs.declared.command.Command.TheVariants.{Create, Delete, SetAcl, ShowAcl, List as Listing, Catalog}
-use Rattle.mon_command.specs.declared.reply.Reply.TheVariants.{Done, Denied, NameTaken, CatalogueFull, BadList}
-use Rattle.mon_command.specs.Commanded.{Answer, Told, Records, Shown, Names, Served, creation_reply, removal_reply, acl_reply, shown_as, served, printed, commanded}
-use Rattle.mon_command.specs.Laws.{ShowsWhereGranted, HiddenSetsHaveNoEffect, IsWhy, DenialsSayWhy}
-use Rattle.mon_command.proofs.Changed.{answered_known}
+use Rattle.acl_text.specs.{declared.text.AclText.{AclText}, Forms.{list_of_text}}
+use Rattle.mon_guard.specs.{Views.{AclPart, records_lent, acl_lent, names_lent}, Owning.{owner_denial, created}, inner.Parts.{given, acl_set_unless}}
 use Rattle.mon_guard.proofs.Shorthand.{removed_unless}
-use Rattle.mon_command.proofs.Shorthand.{served_if_known, printed_as}
+use Rattle.mon_guard.specs.Laws as guard
+use Rattle.deck_lines.specs.declared.command.Command.{Command, TheVariants.{Create, Delete, SetAcl, ShowAcl, List as Listing, Catalog}}
+use Rattle.mon_command.{specs.declared.reply.Reply.TheVariants.{Done, Denied, NameTaken, CatalogueFull, BadList}, proofs.Changed.{answered_known}}
+use Rattle.mon_command.{specs.Laws.{ShowsWhereGranted, HiddenSetsHaveNoEffect, IsWhy, DenialsSayWhy}, proofs.Shorthand.{served_if_known, printed_as}}
+use Rattle.mon_command.specs.Commanded.{Answer, Told, Records, Shown, Names, Served, creation_reply, removal_reply, acl_reply, shown_as, served, printed, commanded}
 
 records_from : (r : Result (List (List ℕ)) Reason) (records : List (List ℕ)) → shown_as Records r ≡ Records records → r ≡ Ok records
 records_from (Ok lent) records h = let same : Records lent ≡ Records records = h in cc

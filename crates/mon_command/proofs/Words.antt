@@ -1,9 +1,7 @@
 -- The words of a denial, from those of the entry that decided.
 use Rattle.std.proofs.Common.{◌≡◌, ap, ◌++◌, ◌∷◌, [], ℕ, List, append_assoc, sym}
-use Rattle.std.specs.Prelude.{codes}
-use Rattle.std.specs.Option.{unwrap_or}
-use Rattle.mon_acl.specs.declared.entries.Entry.{Entry}
-use Rattle.mon_acl.specs.Entries.{tag_word}
+use Rattle.std.specs.{Prelude.{codes}, Option.{unwrap_or}}
+use Rattle.mon_acl.specs.{declared.entries.Entry.{Entry}, Entries.{tag_word}}
 use Rattle.acl_text.specs.Printing.{entry_head}
 use Rattle.interaction.specs.declared.answer.Reason.TheVariants as reason
 use Rattle.mon_command.specs.Replies.{reason_text}

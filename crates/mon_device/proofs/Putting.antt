@@ -1,11 +1,7 @@
 -- Texts that are put to a sink one after the other.
 use Rattle.std.proofs.Common.{◌≡◌, ◌<◌, ◌≤◌, ℕ, ◌+◌, List, [], ◌∷◌, ◌++◌, Bool, true, false, true≢false, length, take, Option, refl, sym, ap, subst, ◌∙◌, append_assoc, append-nil, get_or}
-use Rattle.std.specs.List.{flat_map}
-use Rattle.std.proofs.lemmas.List.{take_more, take_all}
-use Rattle.std.proofs.lemmas.Grind.{flat_map-append}
-use Rattle.mon_device.specs.Devices.{holding, HasTaken}
-use Rattle.mon_device.specs.Putting.{Standing, Puts}
-use Rattle.mon_device.proofs.Holding.{holding-append, holding-nothing}
+use Rattle.std.{specs.List.{flat_map}, proofs.lemmas.List.{take_more, take_all}, proofs.lemmas.Grind.{flat_map-append}}
+use Rattle.mon_device.{specs.Devices.{holding, HasTaken}, specs.Putting.{Standing, Puts}, proofs.Holding.{holding-append, holding-nothing}}
 
 pub puts_nothing : (a : Standing) → Puts a a []
 puts_nothing a = record {

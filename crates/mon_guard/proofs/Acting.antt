@@ -1,29 +1,16 @@
 -- What acts on records come to, and what they leave of the catalogue.
 use Rattle.std.proofs.Common.{◌≡◌, ℕ, Bool, true, false, cond, nat_eq, List, [], ◌∷◌, Option, None, Some, refl, sym, ap, ◌∙◌, inl, inr, ◌⊎◌, slice_get}
-use Rattle.mon_access.specs.declared.account.Account.{Account}
-use Rattle.mon_access.specs.declared.access.Decider.{Decider}
-use Rattle.mon_access.specs.declared.access.Decision.{Decision}
+use Rattle.mon_access.specs.declared.{account.Account.{Account}, access.Decider.{Decider}, access.Decision.{Decision}}
 use Rattle.mon_access.specs.declared.access.Decision.TheVariants as decision
-use Rattle.mon_catalogue.specs.declared.data_set.SetFull.{SetFull}
-use Rattle.mon_catalogue.specs.declared.mode.Mode.{Mode}
-use Rattle.mon_catalogue.specs.declared.mode.Mode.TheVariants.{Seq, Append}
-use Rattle.mon_catalogue.specs.Writing.{Change, writing, change_refusal, recorded}
-use Rattle.interaction.specs.declared.answer.Reason.{Reason}
-use Rattle.interaction.specs.declared.answer.Reason.TheVariants.{NoSet, Mode as WrongMode}
-use Rattle.interaction.specs.declared.answer.Answer.{Answer}
+use Rattle.mon_catalogue.specs.declared.{data_set.SetFull.{SetFull}, mode.Mode.{Mode}, mode.Mode.TheVariants.{Seq, Append}}
+use Rattle.mon_catalogue.specs.{Writing.{Change, writing, change_refusal, recorded}, declared.data_set.DataSet.{DataSet}, Sets.{Sets, find_set}}
+use Rattle.mon_catalogue.{specs.Changes.{with_changed}, proofs.Changing.{changed_there}}
+use Rattle.interaction.specs.declared.answer.{Reason.{Reason}, Reason.TheVariants.{NoSet, Mode as WrongMode}, Answer.{Answer}}
 use Rattle.interaction.specs.declared.answer.Answer.TheVariants as answer
-use Rattle.mon_guard.specs.Deciding.{decision_on}
-use Rattle.mon_guard.specs.inner.Judging.{acted_by}
-use Rattle.mon_guard.specs.inner.Parts.{by_decision, or_denied, ended}
-use Rattle.mon_guard.specs.Reasons.{reason_of}
+use Rattle.mon_guard.{specs.Deciding.{decision_on}, specs.inner.Judging.{acted_by}, specs.inner.Parts.{by_decision, or_denied, ended}, proofs.Shorthand.{made}}
+use Rattle.mon_guard.specs.{Reasons.{reason_of}, Laws.{IsThere, IsGranted, IsFor, WhyNotAct, ActsWhereGranted}}
 use Rattle.mon_guard.specs.Acting.{Act, Read, Write, End, Acted, asks, done, acted_on, acted, only_answered, read_at, left, changed}
-use Rattle.mon_guard.specs.Laws.{IsThere, IsGranted, IsFor, WhyNotAct, ActsWhereGranted}
 use Rattle.std.specs.Cmp.Lexicographic.{pointwise}
-use Rattle.mon_catalogue.specs.declared.data_set.DataSet.{DataSet}
-use Rattle.mon_catalogue.specs.Sets.{Sets, find_set}
-use Rattle.mon_catalogue.specs.Changes.{with_changed}
-use Rattle.mon_catalogue.proofs.Changing.{changed_there}
-use Rattle.mon_guard.proofs.Shorthand.{made}
 
 -- a set that is lent and left so
 pub left_so : (name : List ℕ) (change : Option Change) (sets : Sets) (set : DataSet) → Some set ≡ find_set name sets

@@ -1,21 +1,12 @@
 -- What a denial names is an entry of the list that lacks a part of the request.
 use Rattle.std.proofs.Common.{◌≡◌, ℕ, false, inl, inr, List, Option, None, Some, slice_get, refl, sym, ap, subst, ◌∙◌, true≢false}
-use Rattle.std.specs.Prelude.{All, Any, IsSomeAnd}
-use Rattle.std.proofs.lemmas.Option.{slice_get_cases}
-use Rattle.mon_acl.specs.declared.entries.Perms.{Perms}
-use Rattle.mon_acl.specs.declared.entries.Tag.{Tag}
-use Rattle.mon_acl.specs.declared.entries.Tag.TheVariants.{UserObj, User, GroupObj, Mask, Other}
-use Rattle.mon_acl.specs.declared.entries.Entry.{Entry}
-use Rattle.mon_acl.specs.Entries.{is_qualified, IsEntry}
-use Rattle.mon_access.specs.declared.account.Account.{Account}
-use Rattle.mon_access.specs.declared.access.Decider.{Decider}
+use Rattle.std.{specs.Prelude.{All, Any, IsSomeAnd}, proofs.lemmas.Option.{slice_get_cases}}
+use Rattle.mon_acl.specs.declared.entries.{Perms.{Perms}, Tag.{Tag}, Tag.TheVariants.{UserObj, User, GroupObj, Mask, Other}}
+use Rattle.mon_acl.specs.{declared.entries.Entry.{Entry}, Entries.{is_qualified, IsEntry}}
+use Rattle.mon_access.specs.declared.{account.Account.{Account}, access.Decider.{Decider}, access.Decision.TheVariants.{Granted, Denied}}
+use Rattle.mon_access.specs.{AccessCheck.{decision}, FourCases.{IsOf, IsForUser, IsForGroup, Lacks}, Laws.{IsRightDecider, DecidersLackThePart}}
 use Rattle.mon_access.specs.declared.access.Decider.TheVariants as decider
-use Rattle.mon_access.specs.declared.access.Decision.TheVariants.{Granted, Denied}
-use Rattle.mon_access.specs.AccessCheck.{decision}
-use Rattle.mon_access.specs.FourCases.{IsOf, IsForUser, IsForGroup, Lacks}
-use Rattle.mon_access.specs.Laws.{IsRightDecider, DecidersLackThePart}
-use Rattle.mon_guard.specs.Reasons.{reason_at, reason_of}
-use Rattle.mon_guard.specs.Laws.{NamesLackingEntry, DenialsNameAnEntry}
+use Rattle.mon_guard.specs.{Reasons.{reason_at, reason_of}, Laws.{NamesLackingEntry, DenialsNameAnEntry}}
 
 -- an entry of a type that has no qualifier has no name
 nameless : (t : Tag) → ((name : List ℕ) → is_qualified t (Some name) ≡ false) → (e : Entry) → e.tag ≡ t → IsEntry e → e.name ≡ None

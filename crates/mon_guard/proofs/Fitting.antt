@@ -1,43 +1,20 @@
 -- What keeps rows fitting the sets.
 use Rattle.std.proofs.Common.{◌≡◌, ◌≢◌, ℕ, Bool, true, false, cond, not, List, [], ◌∷◌, ◌++◌, ◌⊎◌, inl, inr, length, take, filter, Option, None, Some, option_map, slice_index_or, Result, Ok, Err, refl, sym, ap, subst, ◌∙◌}
-use Rattle.std.specs.Prelude.{bytes_eq, OnOk, OnErr}
-use Rattle.std.specs.List.{Contains}
-use Rattle.std.specs.Map.{values_of}
-use Rattle.std.specs.Prelude.{slice_get}
-use Rattle.std.proofs.lemmas.Option.{slice_get_within, slice_get-get_or, slice_get-map}
-use Rattle.std.specs.Prelude.{is_some}
-use Rattle.indexmap.specs.IndexMap.{IndexMap, get, insert_entry}
-use Rattle.indexmap.proofs.CallerLemmas.{insert_entry-new}
-use Rattle.std.proofs.lemmas.List.Elements.{All-push, All-contains, All-filter, filter_passes}
-use Rattle.std.proofs.lemmas.List.{map-append}
-use Rattle.std.proofs.Math.Seq.{take-append_seam, take-length}
-use Rattle.std.proofs.lemmas.Bool.{not-true}
-use Rattle.std.proofs.lemmas.Slice.Eq.{bytes_eq-Decides}
-use Rattle.std.proofs.lemmas.Bool.Decides.{not_from_Decides}
-use Rattle.mon_access.specs.declared.account.Account.{Account}
-use Rattle.mon_access.specs.declared.compiled.CompiledAcl.{CompiledAcl}
-use Rattle.mon_catalogue.specs.declared.mode.Mode.{Mode}
-use Rattle.mon_catalogue.specs.declared.data_set.DataSet.{DataSet}
-use Rattle.mon_catalogue.specs.Sets.{Sets, find_set}
-use Rattle.mon_catalogue.specs.Writing.{Change, recorded}
-use Rattle.mon_catalogue.specs.Changes.{with_changed, without_set, with_acl}
-use Rattle.mon_catalogue.proofs.Changed.{other_sets_stay, named_set_changes}
-use Rattle.mon_acl.specs.declared.entries.Entry.{Entry}
-use Rattle.mon_guard.specs.declared.cache.CachedDecision.{CachedDecision}
-use Rattle.mon_guard.specs.Acting.{left, changed}
-use Rattle.mon_guard.specs.Owning.{new_set, created}
-use Rattle.mon_guard.proofs.Owned.{behind}
-use Rattle.mon_guard.proofs.Acting.{left_so, left_as_it_was}
+use Rattle.std.specs.{Prelude.{bytes_eq, OnOk, OnErr, slice_get, is_some, nat_le, if◌then◌else◌}, List.{Contains}, Map.{values_of}}
+use Rattle.std.proofs.lemmas.{Option.{slice_get_within, slice_get-get_or, slice_get-map}, List.{map-append}, Bool.{not-true}}
+use Rattle.std.proofs.{lemmas.List.Elements.{All-push, All-contains, All-filter, filter_passes}, Math.Seq.{take-append_seam, take-length}}
+use Rattle.std.proofs.lemmas.{Slice.Eq.{bytes_eq-Decides}, Bool.Decides.{not_from_Decides}}
+use Rattle.indexmap.{specs.IndexMap.{IndexMap, get, insert_entry}, proofs.CallerLemmas.{insert_entry-new}}
+use Rattle.mon_access.specs.declared.{account.Account.{Account}, compiled.CompiledAcl.{CompiledAcl}}
+use Rattle.mon_catalogue.specs.{declared.mode.Mode.{Mode}, declared.data_set.DataSet.{DataSet}, Sets.{Sets, find_set, create_refusal}}
+use Rattle.mon_catalogue.specs.{Writing.{Change, recorded}, Changes.{with_changed, without_set, with_acl}, declared.catalogue.CreateError.{CreateError}}
 use Rattle.mon_catalogue.specs.declared.catalogue.CreateError.TheVariants.{NameTaken, CatalogueFull}
-use Rattle.std.specs.Prelude.{nat_le, if◌then◌else◌}
-use Rattle.mon_text.specs.declared.stop.Stop.{Stop}
-use Rattle.mon_text.specs.Stops.{refused_as}
-use Rattle.mon_catalogue.specs.declared.catalogue.CreateError.{CreateError}
-use Rattle.mon_catalogue.specs.Sets.{create_refusal}
-use Rattle.mon_guard.specs.Cache.{ready_on, Fits, CacheFits, is_beside, cache_beside, Begins}
-use Rattle.mon_guard.specs.inner.Keeping.{row_on, FitOn, MayKeep}
-use Rattle.mon_catalogue.proofs.Shorthand.{listed}
-use Rattle.mon_guard.proofs.Shorthand.{created_unless}
+use Rattle.mon_catalogue.proofs.{Changed.{other_sets_stay, named_set_changes}, Shorthand.{listed}}
+use Rattle.mon_acl.specs.declared.entries.Entry.{Entry}
+use Rattle.mon_guard.specs.{declared.cache.CachedDecision.{CachedDecision}, Acting.{left, changed}, Owning.{new_set, created}}
+use Rattle.mon_guard.specs.{Cache.{ready_on, Fits, CacheFits, is_beside, cache_beside, Begins}, inner.Keeping.{row_on, FitOn, MayKeep}}
+use Rattle.mon_guard.proofs.{Owned.{behind}, Acting.{left_so, left_as_it_was}, Shorthand.{created_unless}}
+use Rattle.mon_text.specs.{declared.stop.Stop.{Stop}, Stops.{refused_as}}
 
 -- rows that fit go on fitting where each by itself does
 still_fit : (rows : List CachedDecision) (sets after : Sets) → ((row : CachedDecision) → Fits sets row → Fits after row) → CacheFits rows sets → CacheFits rows after

@@ -1,27 +1,16 @@
 -- What is lent is what is granted, and a denial says why.
 use Rattle.std.proofs.Common.{◌≡◌, ◌≢◌, ◌++◌, ◌∷◌, ℕ, Bool, true, false, cond, List, if◌then◌else◌, Option, Some, None, Result, Ok, Err, refl, sym, ap, ◌∙◌, inl, inr}
-use Rattle.std.specs.List.{Contains}
-use Rattle.std.specs.Prelude.{map}
-use Rattle.std.proofs.lemmas.List.Elements.{filter-append}
-use Rattle.mon_acl.specs.declared.entries.Entry.{Entry}
-use Rattle.mon_acl.specs.declared.entries.Perms.{Perms}
-use Rattle.mon_access.specs.declared.account.Account.{Account}
-use Rattle.mon_access.specs.declared.access.Decision.{Decision}
-use Rattle.mon_access.specs.declared.access.Decision.TheVariants.{Granted, Denied}
+use Rattle.std.{specs.List.{Contains}, specs.Prelude.{map}, proofs.lemmas.List.Elements.{filter-append}}
+use Rattle.mon_acl.specs.declared.entries.{Entry.{Entry}, Perms.{Perms}}
+use Rattle.mon_access.specs.declared.{account.Account.{Account}, access.Decision.{Decision}, access.Decision.TheVariants.{Granted, Denied}}
 use Rattle.mon_access.specs.Matches.{is_owner}
-use Rattle.mon_catalogue.specs.declared.data_set.DataSet.{DataSet}
-use Rattle.mon_catalogue.specs.Sets.{Sets, find_set}
-use Rattle.interaction.specs.declared.answer.Reason.{Reason}
-use Rattle.interaction.specs.declared.answer.Reason.TheVariants.{NoSet, NotOwner}
-use Rattle.mon_guard.specs.Deciding.{to_read, to_execute, decision_on, where_granted, is_granted, may_be_shown}
-use Rattle.mon_guard.specs.inner.Parts.{by_decision}
-use Rattle.mon_guard.specs.Reasons.{reason_of}
-use Rattle.mon_guard.specs.Views.{AclPart, acl_part, name_part, names_shown}
-use Rattle.mon_guard.specs.Owning.{owner_denial}
-use Rattle.mon_guard.specs.Laws.{IsThere, MaySeeList, MaySeeName, AreForReading, IsForSeeing, DecidedBy, WhyNotRead, WhyNotSeeList, WhyNotOwner, LendsWhereGranted, HiddenSetsLeaveNoTrace, DenialsSayWhy}
-use Rattle.mon_guard.proofs.Kept.{keeps, kept_only}
-use Rattle.mon_guard.proofs.Owners.{is_owner_true, is_owner_false, owns_from, owns_not}
+use Rattle.mon_catalogue.specs.{declared.data_set.DataSet.{DataSet}, Sets.{Sets, find_set}}
+use Rattle.interaction.specs.declared.answer.Reason.{Reason, TheVariants.{NoSet, NotOwner}}
+use Rattle.mon_guard.specs.{Deciding.{to_read, to_execute, decision_on, where_granted, is_granted, may_be_shown}, inner.Parts.{by_decision}}
+use Rattle.mon_guard.specs.{Reasons.{reason_of}, Views.{AclPart, acl_part, name_part, names_shown}, Owning.{owner_denial}}
+use Rattle.mon_guard.proofs.{Kept.{keeps, kept_only}, Owners.{is_owner_true, is_owner_false, owns_from, owns_not}}
 use Rattle.mon_guard.proofs.Shorthand.{owner_denial_of, records_of, acl_of}
+use Rattle.mon_guard.specs.Laws.{IsThere, MaySeeList, MaySeeName, AreForReading, IsForSeeing, DecidedBy, WhyNotRead, WhyNotSeeList, WhyNotOwner, LendsWhereGranted, HiddenSetsLeaveNoTrace, DenialsSayWhy}
 
 -- what the access check lets through, and what it denies
 granted_by : {A : Type 0} (acl : List Entry) (d : Decision) (granted other : A) → by_decision acl d granted ≡ Ok other → (d ≡ Granted) × (other ≡ granted)

@@ -1,8 +1,7 @@
 -- The owner of a data set, as a test and as a fact.
 use Rattle.std.proofs.Common.{◌≡◌, Bool, true, false, refl, sym, ◌∙◌}
 use Rattle.std.proofs.lemmas.Slice.Eq.{bytes_eq-Decides}
-use Rattle.mon_access.specs.declared.account.Account.{Account}
-use Rattle.mon_access.specs.Matches.{is_owner}
+use Rattle.mon_access.specs.{declared.account.Account.{Account}, Matches.{is_owner}}
 use Rattle.mon_catalogue.specs.declared.data_set.DataSet.{DataSet}
 use Rattle.mon_guard.specs.Laws.{Owns}
 

@@ -1,23 +1,11 @@
 -- Parts of the definitions by names of their own.
-use Rattle.std.specs.Prelude.{ℕ, List, [], ◌∷◌, ◌++◌, Option, None, Some, Result, Ok, Err, if◌then◌else◌}
-use Rattle.std.specs.Option.{option_map_or}
-use Rattle.mon_access.specs.declared.account.Account.{Account}
-use Rattle.mon_access.specs.Matches.{is_owner}
-use Rattle.mon_catalogue.specs.declared.mode.Mode.{Mode}
-use Rattle.mon_catalogue.specs.declared.data_set.DataSet.{DataSet}
-use Rattle.mon_catalogue.specs.declared.catalogue.CreateError.{CreateError}
-use Rattle.mon_catalogue.specs.Sets.{Sets}
-use Rattle.mon_catalogue.specs.Changes.{without_set}
-use Rattle.interaction.specs.declared.answer.Reason.{Reason}
-use Rattle.interaction.specs.declared.answer.Reason.TheVariants.{NoSet, NotOwner}
-use Rattle.mon_catalogue.specs.declared.data_set.SetFull.{SetFull}
-use Rattle.mon_catalogue.specs.Writing.{Change}
-use Rattle.interaction.specs.declared.answer.Answer.TheVariants.{Done, Full}
-use Rattle.mon_guard.specs.Deciding.{to_read, to_execute, where_granted}
-use Rattle.mon_guard.specs.Views.{AclPart, acl_part}
-use Rattle.mon_guard.specs.Acting.{Acted, only_answered}
+use Rattle.std.specs.{Prelude.{ℕ, List, [], ◌∷◌, ◌++◌, Option, None, Some, Result, Ok, Err, if◌then◌else◌}, Option.{option_map_or}}
+use Rattle.mon_access.specs.{declared.account.Account.{Account}, Matches.{is_owner}}
+use Rattle.mon_catalogue.specs.{declared.mode.Mode.{Mode}, declared.data_set.DataSet.{DataSet}, declared.catalogue.CreateError.{CreateError}, Sets.{Sets}}
+use Rattle.mon_catalogue.specs.{Changes.{without_set}, declared.data_set.SetFull.{SetFull}, Writing.{Change}}
+use Rattle.interaction.specs.declared.answer.{Reason.{Reason}, Reason.TheVariants.{NoSet, NotOwner}, Answer.TheVariants.{Done, Full}}
+use Rattle.mon_guard.specs.{Deciding.{to_read, to_execute, where_granted}, Views.{AclPart, acl_part}, Acting.{Acted, only_answered}, Owning.{new_set}}
 use Rattle.mon_guard.specs.inner.Parts.{position_after}
-use Rattle.mon_guard.specs.Owning.{new_set}
 
 abbrev pub owner_denial_of : Account → Option DataSet → Option Reason
 owner_denial_of account set = option_map_or (λ d. if is_owner account d.owner then None else Some NotOwner) set (Some NoSet)

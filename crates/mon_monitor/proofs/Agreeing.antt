@@ -1,11 +1,7 @@
 -- Events of one account's own, in systems that agree for it.
 use Rattle.std.proofs.Common.{◌≡◌, ℕ, Bool, List, [], ◌∷◌, ◌++◌, length, Option, refl, ap, sym, ◌∙◌, subst, inl, inr, map, is_some, is_none, drop, replicate}
 use Rattle.mon_monitor.proofs.Common.{AllByRecursion, list_all, Account, JobEnd, SlotState, SchedulerState, first_free, ends_by, Marks, mark_of, turn_as, Past, nothing, until, never, marked, rounds, turns_left, rounds_until, is_done, has_free_slot, drain, room, ends_then, either_way, until_stops, until_goes, SystemState, with_scheduler, Event, Serve, Load, Give, Drain, Printout, OfCommand, Played, of_turns, of_loading, then_played, happened, played, SchedulersAgree, Agree, IsOwn, Isolated, Turned}
-use Rattle.mon_monitor.proofs.Parts.{of_load, and_played}
-use Rattle.mon_monitor.proofs.Turning.{scheduler_turn}
-use Rattle.mon_monitor.proofs.Commands.{commands_agree}
-use Rattle.mon_monitor.proofs.Loading.{loads_agree}
-use Rattle.mon_monitor.proofs.Shorthand.{of_ends}
+use Rattle.mon_monitor.proofs.{Parts.{of_load, and_played}, Turning.{scheduler_turn}, Commands.{commands_agree}, Loading.{loads_agree}, Shorthand.{of_ends}}
 
 record PastAlike (account : Account) (p q : Past) : Type 0 where
   pub ends : p.ends ≡ q.ends

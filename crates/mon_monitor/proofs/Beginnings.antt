@@ -1,7 +1,6 @@
 -- Before the first event all slots are empty, so catalogues that look alike are all that is asked.
 use Rattle.std.proofs.Common.{◌≡◌, ℕ, zero, suc, Some, None, refl, ap, replicate, slice_get}
-use Rattle.mon_monitor.proofs.Common.{option_flatten, SlotState, seat_at, first_system, printouts_text, FromTheBeginning}
-use Rattle.mon_monitor.proofs.Agreeing.{isolated}
+use Rattle.mon_monitor.proofs.{Common.{option_flatten, SlotState, seat_at, first_system, printouts_text, FromTheBeginning}, Agreeing.{isolated}}
 
 no_job : (n i : ℕ) (slot : SlotState) → option_flatten (slice_get (replicate n None) i) ≡ Some slot → ⊥
 no_job zero i slot h = cc

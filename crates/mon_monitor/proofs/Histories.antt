@@ -1,9 +1,7 @@
 -- Events one after the other, and what marks have to do with them.
 use Rattle.std.proofs.Common.{◌≡◌, ◌≢◌, ℕ, Bool, true, List, [], ◌∷◌, ◌++◌, length, Option, Some, None, Result, Ok, Err, refl, ap, sym, ◌∙◌, inl, inr, append_assoc, map, option_map, is_some, replicate}
 use Rattle.mon_monitor.proofs.Common.{AllByRecursion, option_or, SyntaxError, ProgramText, statements_of, syntax_refusal, Account, find_account, UnitError, JobDeck, JobEnd, LoadError, NoSlot, NoAccount, Cards, Syntax, SlotState, SchedulerState, first_free, Marks, Past, turn_as, until, never, rounds, turns_left, is_done, has_free_slot, room, NoneByMemory, MarksEndJobs, RoomIsMade, missing, program_refusal, first_units, ties_refusal, deck_refusal, loaded_by, slot_in, seat_length, either_way, until_stops, until_goes, until_length, SystemState, with_scheduler, Event, Serve, Load, Give, Drain, Printout, printouts_text, Played, loading, of_turns, happened, played, CardByCard, PrintedInOrder, NotByMemory, AsUnmarked, PlayedUnmarked, LoadHasRoom, AccountsStay, SlotsStay}
-use Rattle.mon_monitor.proofs.Parts.{of_load, and_played}
-use Rattle.mon_monitor.proofs.Playing.{printouts_append}
-use Rattle.mon_monitor.proofs.Shorthand.{of_ends}
+use Rattle.mon_monitor.proofs.{Parts.{of_load, and_played}, Playing.{printouts_append}, Shorthand.{of_ends}}
 
 pub card_by_card : CardByCard
 card_by_card [] F m w = refl

@@ -1,8 +1,7 @@
 -- A job of an account is loaded, in systems that agree for it.
 use Rattle.std.proofs.Common.{◌≡◌, ℕ, zero, suc, List, [], ◌∷◌, Option, Some, None, Result, ap, sym, ◌∙◌, subst, inl, inr, ◌⊎◌, slice_get, map}
 use Rattle.mon_monitor.proofs.Common.{range_with_len, Account, find_account, statements_of, Program, Set, Tie, UnitState, tied_to, first_tie, UnitCard, JobDeck, LoadError, SlotState, seat_at, first_free, job_in, first_units, with_ties, tied_by, program_in, load_refusal, slot_in, loaded_by, job_loaded, slot_by, LoadsAgree}
-use Rattle.mon_monitor.proofs.Requests.{get_after_set}
-use Rattle.mon_monitor.proofs.Turning.{seat_after}
+use Rattle.mon_monitor.proofs.{Requests.{get_after_set}, Turning.{seat_after}}
 
 -- all units stand at the start
 abbrev AtStart : UnitState → Type 0

@@ -4,9 +4,7 @@ use Rattle.mon_monitor.proofs.Common.{flat_map, flat_map-append, Stop, IfRefused
 use Rattle.mon_text.specs.declared.stop.Stop.TheVariants.{Refused}
 use Rattle.deck_lines.specs.declared.command.Command.TheVariants.{List as Listing}
 use Rattle.scheduler.specs.Turning.{Passed}
-use Rattle.mon_monitor.proofs.Parts.{of_load, and_played}
-use Rattle.mon_monitor.proofs.Auditing.{until_told, load_told}
-use Rattle.mon_monitor.proofs.Shorthand.{of_ends}
+use Rattle.mon_monitor.proofs.{Parts.{of_load, and_played}, Auditing.{until_told, load_told}, Shorthand.{of_ends}}
 
 pub printouts_append : (xs ys : List Printout) → printouts_text (xs ++ ys) ≡ printouts_text xs ++ printouts_text ys
 printouts_append xs ys = flat_map-append printout_text xs ys

@@ -2,9 +2,7 @@
 use Rattle.std.proofs.Common.{◌≡◌, ◌≢◌, ◌⊎◌, ◌==◌, ℕ, zero, suc, ◌-◌, ◌≤◌, Bool, true, false, List, [], ◌∷◌, ◌++◌, length, map, replicate, Option, Some, None, refl, ap, sym, ◌∙◌, subst, inl, inr, arith, append_assoc, append-nil, if◌then◌else◌, is_some, drop}
 use Rattle.mon_monitor.proofs.Common.{filter-append, eqb-true, option_or, Ending, Step, Job, counted_turn, turn_of, statements_begun, statements_of, Program, Account, find_account, UnitState, Reach, serve, run, passed_begins, Sets, account_of, answered, UnitCard, JobDeck, LoadError, NoSlot, NoAccount, SlotState, SchedulerState, scheduler, seat_at, with_seat, job_in, first_free, missing, program_refusal, first_units, tied_by, with_ties, program_in, deck_refusal, loaded_slot, slot_in, loaded_by, job_loaded, slot_by, broken_turn, ends_then, reached, ran, ends_by, Mark, Marks, mark_of, passed_at, exchanges_at, may_break, ran_as, turn_as, Past, nothing, until, never, is_done, has_free_slot, room, SystemState, Event, Serve, Load, Give, Drain, happened, played, whole_turn, asked_in, Entered, Asked, Ordered, end_entry, turn_entries, entries_until, load_entry, event_entries, history, is_of, own, IsJob, job_of, NumbersDiffer, serve_fits, turn_counts, IsSeat, seat_changed, free_seat, turn_as_by, broken_by, system, eq-eqb, Memory, Entry, Refused}
 use Rattle.sno_run.specs.declared.ending.Step.TheVariants as step
-use Rattle.mon_monitor.proofs.Histories.{event_accounts}
-use Rattle.mon_monitor.proofs.Accounting.{in_rounds}
-use Rattle.mon_monitor.proofs.Exchanging.{whole_told, cut_told, all_passed, all_told, all_asked, cut_asks}
+use Rattle.mon_monitor.proofs.{Histories.{event_accounts}, Accounting.{in_rounds}, Exchanging.{whole_told, cut_told, all_passed, all_told, all_asked, cut_asks}}
 use Rattle.mon_monitor.proofs.Telling.{same_or_not, not_same, AreOf, none_of, more_of, number_is, number_not, own_more, own_same, Sitting, goes_on, Turn, Again, IsToCome, SoFar, still_job, turn_far}
 
 -- A turn of a job leaves its limits; where the job goes on, fewer statements may begin than before, and where it ends, it has

@@ -4,8 +4,7 @@ use Rattle.mon_monitor.proofs.Common.{nat_tests, eqb_tells, pointwise, keys_of, 
 use Rattle.sno_run.specs.declared.ending.Step.TheVariants as step
 use Rattle.job_end.specs.declared.turned.Turned.TheVariants.{Ended}
 use Rattle.scheduler.specs.Turns.{turn, Course}
-use Rattle.mon_monitor.proofs.Names.{tell_name, same_lists}
-use Rattle.mon_monitor.proofs.Turning.{seat_after, seat_is}
+use Rattle.mon_monitor.proofs.{Names.{tell_name, same_lists}, Turning.{seat_after, seat_is}}
 
 -- seats
 seat_same : (s : ℕ) (o : Option SlotState) (slots : List (Option SlotState)) (slot : SlotState) → seat_at s slots ≡ Some slot → seat_at s (with_seat s o slots) ≡ o

@@ -7,9 +7,7 @@ use Rattle.deck_lines.specs.declared.command.Command.TheVariants.{List as Listin
 use Rattle.mon_command.specs.Commanded as commands
 use Rattle.mon_unit.specs.declared.note.NoteAct.TheVariants as note
 use Rattle.mon_unit.specs.Laws as units
-use Rattle.mon_monitor.proofs.Accounting.{history_lead}
-use Rattle.mon_monitor.proofs.Answering.{room_test, done_where}
-use Rattle.mon_monitor.proofs.Appending.{found_first}
+use Rattle.mon_monitor.proofs.{Accounting.{history_lead}, Answering.{room_test, done_where}, Appending.{found_first}}
 
 -- this line is the record at this place of the data set of this name
 abbrev pub Holds : List ℕ → ℕ → List ℕ → Sets → Type 0

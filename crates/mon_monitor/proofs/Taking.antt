@@ -3,12 +3,8 @@ use Rattle.std.proofs.Common.{◌≡◌, ◌≢◌, ℕ, zero, suc, ◌+◌, ◌
 use Rattle.mon_monitor.proofs.Common.{AllByRecursion, flat_map, list_all, list_any, range_with_len, position_from, option_flatten, option_or, lt-ltb, le-ltb, mod-mul-add, suc-mul, Returns, Asks, Asking, Beginning, Requesting, Counted, requests_in, statements_in, Done, Ending, Step, Job, counted_turn, turn_of, statements_begun, statements_of, Program, Account, find_account, Sets, account_of, answered, Reach, serve, run, passed, passing, serve_fits, JobDeck, LoadError, NoSlot, SlotState, SchedulerState, seat_at, with_seat, job_in, first_free, missing, program_in, deck_refusal, loaded_slot, slot_in, loaded_by, job_loaded, slot_by, broken_turn, ends_then, reached, ran, after_turn, seat, told, ends_by, Mark, Marks, mark_of, exchanges_at, may_break, ran_as, turn_as, Past, nothing, until, never, rounds, turns_left, is_done, has_free_slot, room, RoomIsMade, turn_length, until_goes, enough, turn_as_by, broken_by, SystemState, first_system, system, Event, Serve, Load, Give, Drain, happened, played, SlotsStay, Exchanged, asked_by, whole_turn, asked_in, Entered, Asked, end_entry, turn_entries, entries_until, load_entry, event_entries, history, exchanges, Seats, Stage, left_as, IsTurn, TurnOf, Take, Turns, IsLowestFree, Loads, Brings, BringInOrder, IsUnbroken, TurnsCome, Passed, Memory, Entry, Refused, in_rounds}
 use Rattle.interaction.specs.Asking as asking
 use Rattle.sno_run.specs.declared.ending.Step.TheVariants as step
-use Rattle.mon_monitor.proofs.Unbroken.{turn_unbroken}
-use Rattle.mon_monitor.specs.Turns.{given}
-use Rattle.mon_monitor.proofs.Histories.{event_accounts}
-use Rattle.mon_monitor.proofs.Exchanging.{whole_told, cut_told, all_passed, all_told, cut_asks}
-use Rattle.mon_monitor.proofs.Turning.{seat_after}
-use Rattle.mon_monitor.proofs.Recounting.{some_free, none_first, no_jobs, so_many}
+use Rattle.mon_monitor.{proofs.Unbroken.{turn_unbroken}, specs.Turns.{given}, proofs.Histories.{event_accounts}, proofs.Turning.{seat_after}}
+use Rattle.mon_monitor.proofs.{Exchanging.{whole_told, cut_told, all_passed, all_told, cut_asks}, Recounting.{some_free, none_first, no_jobs, so_many}}
 
 abbrev pub staged : Seats → Marks → Stage
 staged seats marks = record { seats = seats; marks = marks }

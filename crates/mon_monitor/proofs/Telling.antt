@@ -3,8 +3,7 @@ use Rattle.std.proofs.Common.{◌≡◌, ◌≢◌, ◌⊎◌, ◌==◌, ℕ, ze
 use Rattle.mon_monitor.proofs.Common.{map-append, filter-append, flat_map-append, eqb-true, eqb-false, Exchange, Moment, Beginning, Requesting, MomentFits, IsTracePrefix, requests_in, statements_in, with_request, with_statement, plain_told, Ending, Step, Job, counted_turn, counted_turns, turns_of, statements_begun, Account, Note, UnitState, serve, JobDeck, SlotState, seat_at, with_seat, first_units, with_ties, seat, told, Event, Exchanged, Entered, Asked, end_entry, is_of, own, job_in_cards, exchange, exchanges, Follow, GoesOn, IsJob, job_of, tells_then, begins_then, begins_first, seat_changed, taken_seat, eq-eqb, Answer, Passed, IsTrace, Memory, Entry, spooled, noted}
 use Rattle.interaction.specs.Asking as asking
 use Rattle.sno_run.specs.declared.ending.Step.TheVariants as step
-use Rattle.mon_monitor.specs.Headline.{Course}
-use Rattle.mon_monitor.proofs.Exchanging.{Told, follow_both}
+use Rattle.mon_monitor.{specs.Headline.{Course}, proofs.Exchanging.{Told, follow_both}}
 
 -- WHOSE ENTRIES
 

@@ -2,9 +2,7 @@
 use Rattle.std.proofs.Common.{◌≡◌, ℕ, List, Option, Result, Ok, Err, ap, sym, ◌∙◌, subst, IfOk, IfErr, OnOk, OnErr}
 use Rattle.mon_monitor.proofs.Common.{Stop, IfRefused, Account, Sets, Command, commanded, JobDeck, LoadError, Slots, slots_in, SlotState, SchedulerState, scheduler, job_loaded, Standing, TurnOr, SystemState, with_scheduler, with_sets, loading, Agree, turning, CommandIsolated, LoadIsolated, TurnIsolated, system, Turned}
 use Rattle.mon_text.specs.declared.stop.Stop.TheVariants.{Refused, Memory}
-use Rattle.mon_monitor.proofs.Turning.{turns_agree}
-use Rattle.mon_monitor.proofs.Commands.{commands_agree}
-use Rattle.mon_monitor.proofs.Loading.{loads_agree}
+use Rattle.mon_monitor.proofs.{Turning.{turns_agree}, Commands.{commands_agree}, Loading.{loads_agree}}
 
 -- a command
 command_shows_none : (command : Command) (w w' : SystemState) (told : List ℕ) → told ≡ (commanded w.accounts w.scheduler.sets command).printout

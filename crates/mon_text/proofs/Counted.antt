@@ -1,13 +1,9 @@
 -- A number in decimal is a count of that number.
 use Rattle.std.proofs.Common.{◌≡◌, ℕ, ◌+◌, ◌-◌, ◌*◌, ◌/◌, ◌%◌, ◌^◌, ◌<◌, ◌≤◌, Bool, true, ◌&&◌, nat_le, List, [], ◌∷◌, ◌++◌, length, refl, ap, ◌∙◌, arith}
-use Rattle.std.specs.Prelude.{decimal}
-use Rattle.std.specs.List.{list_all}
-use Rattle.std.proofs.lemmas.Fmt.{decimal_by_steps, decimal_nonempty, length-decimal-le}
-use Rattle.std.proofs.lemmas.List.Folds.{list_all-append}
+use Rattle.std.specs.{Prelude.{decimal}, List.{list_all}}
+use Rattle.std.proofs.lemmas.{Fmt.{decimal_by_steps, decimal_nonempty, length-decimal-le}, List.Folds.{list_all-append}}
 use borrow.Author.Tests.{le-leb}
-use Rattle.mon_text.specs.Characters.{is_digit}
-use Rattle.mon_text.specs.Counts.{is_count, IsCount, value_of}
-use Rattle.mon_text.proofs.Digits.{read_on}
+use Rattle.mon_text.{specs.Characters.{is_digit}, specs.Counts.{is_count, IsCount, value_of}, proofs.Digits.{read_on}}
 
 -- the digits of a number, and their value
 abbrev pub AreDigitsOf : ℕ → List ℕ → Type 0

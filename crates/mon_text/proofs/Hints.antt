@@ -1,8 +1,6 @@
 -- The entry at a place with the name is the one of that name, since no two entries have one name.
 use Rattle.std.proofs.Common.{◌≡◌, ℕ, zero, suc, nat_eq, nat_lt, ◌<◌, Bool, true, false, cond, not, List, [], ◌∷◌, ◌+◌, length, None, Some, position, slice_get, refl, sym, ap, ◌∙◌, true≢false, arith}
-use Rattle.std.specs.List.{position_or_len, IsDistinct, AllByRecursion}
-use Rattle.std.specs.Cmp.Lexicographic.{pointwise, nat_list_eq_equiv}
-use Rattle.std.specs.Map.{keys_of}
+use Rattle.std.specs.{List.{position_or_len, IsDistinct, AllByRecursion}, Cmp.Lexicographic.{pointwise, nat_list_eq_equiv}, Map.{keys_of}}
 use Rattle.std.proofs.lemmas.Bool.Decides.{nat_tests}
 
 abbrev same : List ℕ → List ℕ → Bool

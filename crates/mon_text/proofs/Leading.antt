@@ -1,13 +1,8 @@
 -- The name that a text begins with, as it is read character by character.
 use Rattle.std.proofs.Common.{◌≡◌, ◌∙◌, ℕ, zero, suc, ◌+◌, ◌<◌, ◌≤◌, get_or, Bool, true, false, ◌&&◌, List, [], ◌∷◌, ◌++◌, length, take, set, replicate, refl, sym, ap, subst, arith, true≢false}
-use Rattle.std.specs.Prelude.{slice_index}
-use Rattle.std.specs.List.{list_all}
-use Rattle.std.proofs.Math.Seq.{take-suc, take-suc-set}
-use Rattle.std.proofs.lemmas.Bool.{le-leb}
-use Rattle.std.proofs.lemmas.List.{length-take-le, get_or-set_other}
-use Rattle.mon_text.specs.Characters.{is_letter}
-use Rattle.mon_text.specs.Names.{is_name_character, IsName}
-use Rattle.mon_text.specs.inner.Padding.{IsZeroFrom}
+use Rattle.std.specs.{Prelude.{slice_index}, List.{list_all}}
+use Rattle.std.proofs.{Math.Seq.{take-suc, take-suc-set}, lemmas.Bool.{le-leb}, lemmas.List.{length-take-le, get_or-set_other}}
+use Rattle.mon_text.specs.{Characters.{is_letter}, Names.{is_name_character, IsName}, inner.Padding.{IsZeroFrom}}
 
 both : (a b : Bool) → (a && b) ≡ true → (a ≡ true) × (b ≡ true)
 both true b h = (refl, h)

@@ -1,13 +1,8 @@
 -- Names and the arrays that they lie in, with zeros behind them: how two compare, and the number that begins one.
 use Rattle.std.proofs.Common.{◌≡◌, ℕ, zero, suc, ◌+◌, ◌-◌, ◌*◌, ◌<◌, ◌≤◌, ◌==◌, ◌++◌, drop, get_or, nat_le, get_or-drop, get_or-append-add, subst, Bool, true, false, ◌&&◌, List, [], ◌∷◌, length, length-take, take, refl, sym, ap, ◌∙◌, arith, nat_cmp, Ordering, true≢false}
-use Rattle.std.specs.List.{list_all}
+use Rattle.std.specs.{List.{list_all}, Cmp.Lexicographic.{slice_cmp}, Slice.Scan.{big_endian}, Ordering.{ordering_then}}
 use Rattle.std.proofs.lemmas.Bool.Decides.{Decides-eqb, nat_tests}
-use Rattle.std.specs.Cmp.Lexicographic.{slice_cmp}
-use Rattle.std.specs.Slice.Scan.{big_endian}
-use Rattle.std.specs.Ordering.{ordering_then}
-use Rattle.mon_text.specs.Characters.{is_letter}
-use Rattle.mon_text.specs.Names.{is_name_character, IsName, first_of, head_of}
-use Rattle.mon_text.specs.inner.Padding.{IsZeroFrom}
+use Rattle.mon_text.specs.{Characters.{is_letter}, Names.{is_name_character, IsName, first_of, head_of}, inner.Padding.{IsZeroFrom}}
 use Rattle.mon_text.proofs.WordOrder.{below, level, above}
 
 -- none of the characters is 0

@@ -1,8 +1,7 @@
 -- Where a search finds a byte: that is its position in the list.
 use Rattle.std.proofs.Common.{◌≡◌, ℕ, Bool, false, List, length, Option, Some, None, sym, ap, ◌∙◌, arith, position}
 use Rattle.std.specs.List.{position_or_len, slice_index}
-use Rattle.std.proofs.lemmas.Bool.{cond-true, cond-false, false_from_ne_true, lt-ltb, le-ltb}
-use Rattle.std.proofs.lemmas.List.Sums.{position_or_len_is}
+use Rattle.std.proofs.lemmas.{Bool.{cond-true, cond-false, false_from_ne_true, lt-ltb, le-ltb}, List.Sums.{position_or_len_is}}
 use Rattle.memchr.specs.Find.{IsFirstByte, Passes}
 
 module _ (test : ℕ → Bool) (bytes : List ℕ) where

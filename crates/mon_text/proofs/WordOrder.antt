@@ -1,9 +1,6 @@
 -- Eight bytes as one number compare as the bytes do.
 use Rattle.std.proofs.Common.{◌≡◌, ◌≢◌, ℕ, zero, suc, ◌+◌, ◌*◌, ◌<◌, ◌≤◌, List, [], ◌∷◌, length, take, drop, get_or, refl, sym, ap, ap₂, subst, ◌∙◌, arith, nat_cmp, Ordering, Less, Equal, Greater, length-drop, get_or-drop, drop-drop, drop-cons}
-use Rattle.std.specs.Slice.Scan.{big_endian}
-use Rattle.std.specs.Cmp.{ranks}
-use Rattle.std.specs.Cmp.Lexicographic.{slice_cmp}
-use Rattle.std.specs.Ordering.{ordering_then, MatchOrdering}
+use Rattle.std.specs.{Slice.Scan.{big_endian}, Cmp.{ranks}, Cmp.Lexicographic.{slice_cmp}, Ordering.{ordering_then, MatchOrdering}}
 use lib.Lanes.{chunk}
 
 abbrev pub AreBytes : List ℕ → Type 0

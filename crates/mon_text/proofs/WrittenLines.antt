@@ -1,10 +1,8 @@
 -- Lines that are written one after another, each ended by LF, are cut at each LF into the same lines, where neither LF nor CR is a
 -- character of theirs.
 use Rattle.std.proofs.Common.{◌≡◌, ℕ, ◌-◌, ◌<◌, Bool, true, false, if◌then◌else◌, List, [], ◌∷◌, ◌++◌, length, take, get_or, refl, sym, ap, ◌∙◌, true≢false, arith, append_assoc, ◌==◌}
-use Rattle.std.specs.List.{list_all, flat_map, slice_split, AllByRecursion}
-use Rattle.std.specs.Str.Lines.{lines, lines_of_parts, strip_carriage_return}
-use Rattle.std.proofs.lemmas.List.Folds.{list_all_at}
-use Rattle.std.proofs.lemmas.List.Splits.{slice_split_at}
+use Rattle.std.specs.{List.{list_all, flat_map, slice_split, AllByRecursion}, Str.Lines.{lines, lines_of_parts, strip_carriage_return}}
+use Rattle.std.proofs.lemmas.List.{Folds.{list_all_at}, Splits.{slice_split_at}}
 use borrow.Author.Tests.{eqb-true}
 
 abbrev is_line_feed : ℕ → Bool

@@ -1,31 +1,17 @@
 -- What acts come to, case by case.
 use Rattle.std.proofs.Common.{◌≡◌, ℕ, ◌+◌, List, Option, None, Some, refl, ap, slice_get}
-use Rattle.mon_access.specs.declared.account.Account.{Account}
-use Rattle.mon_access.specs.declared.access.Decision.{Decision}
+use Rattle.mon_access.specs.declared.{account.Account.{Account}, access.Decision.{Decision}}
 use Rattle.mon_access.specs.declared.access.Decision.TheVariants as decision
-use Rattle.mon_catalogue.specs.declared.mode.Mode.{Mode}
-use Rattle.mon_catalogue.specs.declared.mode.Mode.TheVariants.{Seq, Append}
-use Rattle.mon_catalogue.specs.declared.data_set.DataSet.{DataSet}
-use Rattle.mon_catalogue.specs.declared.data_set.SetFull.{SetFull}
-use Rattle.mon_catalogue.specs.Writing.{Change, writing, change_refusal}
-use Rattle.interaction.specs.declared.answer.Reason.{Reason}
-use Rattle.interaction.specs.declared.answer.Reason.TheVariants.{NoSet, NoUnit, InStream, SpoolUnit, Mode as WrongMode}
-use Rattle.mon_guard.specs.Deciding.{decision_on}
-use Rattle.mon_guard.specs.inner.Parts.{by_decision, position_after, ended, or_denied}
-use Rattle.mon_guard.specs.Reasons.{reason_of}
+use Rattle.mon_catalogue.specs.declared.{mode.Mode.{Mode}, mode.Mode.TheVariants.{Seq, Append}, data_set.DataSet.{DataSet}}
+use Rattle.mon_catalogue.specs.{declared.data_set.SetFull.{SetFull}, Writing.{Change, writing, change_refusal}}
+use Rattle.interaction.specs.declared.answer.Reason.{Reason, TheVariants.{NoSet, NoUnit, InStream, SpoolUnit, Mode as WrongMode}}
+use Rattle.interaction.specs.declared.request.Act.{Act, TheVariants.{Read, Write, Endfile, Rewind}}
+use Rattle.mon_guard.specs.{Deciding.{decision_on}, inner.Parts.{by_decision, position_after, ended, or_denied}, Reasons.{reason_of}}
+use Rattle.mon_guard.{specs.Acting.{Acted, only_answered, read_at, changing, asks, done, acted_on}, proofs.Shorthand.{made}}
 use Rattle.mon_guard.specs.Acting as acting
-use Rattle.mon_guard.specs.Acting.{Acted, only_answered, read_at, changing, asks, done, acted_on}
-use Rattle.interaction.specs.declared.request.Act.{Act}
-use Rattle.interaction.specs.declared.request.Act.TheVariants.{Read, Write, Endfile, Rewind}
 use Rattle.interaction.specs.declared.answer.Answer.TheVariants as answer
-use Rattle.mon_unit.specs.declared.tie.Target.{Target}
-use Rattle.mon_unit.specs.declared.tie.Target.TheVariants.{Untied, Data, Spool, Set}
-use Rattle.mon_unit.specs.State.{UnitState}
-use Rattle.mon_unit.specs.Tying.{tie_at}
-use Rattle.mon_unit.specs.Serving.{acted_at, moved}
-use Rattle.mon_unit.specs.inner.Settling.{placed_by}
-use Rattle.mon_unit.proofs.Ties.{still_placed}
-use Rattle.mon_guard.proofs.Shorthand.{made}
+use Rattle.mon_unit.specs.{declared.tie.Target.{Target}, declared.tie.Target.TheVariants.{Untied, Data, Spool, Set}, State.{UnitState}}
+use Rattle.mon_unit.{specs.Tying.{tie_at}, specs.Serving.{acted_at, moved}, specs.inner.Settling.{placed_by}, proofs.Ties.{still_placed}}
 
 -- it is denied, or what is granted is done
 pub acted_cases : (P : Acted → Type 0) (account : Account) (act : acting.Act)

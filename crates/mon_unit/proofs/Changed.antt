@@ -1,18 +1,11 @@
 -- The data sets and the ties, part by part.
-use Rattle.std.specs.Prelude.{ℕ, List, Option}
-use Rattle.std.specs.Option.{option_map_or}
-use Rattle.mon_catalogue.specs.Sets.{Sets}
-use Rattle.mon_catalogue.specs.Writing.{Change}
+use Rattle.std.specs.{Prelude.{ℕ, List, Option}, Option.{option_map_or}}
+use Rattle.mon_catalogue.specs.{Sets.{Sets}, Writing.{Change}, declared.data_set.DataSet.{DataSet}}
 use Rattle.mon_guard.specs.Acting.{changed, Acted}
-use Rattle.mon_unit.specs.declared.tie.Tie.{Tie}
-use Rattle.mon_unit.specs.Tying.{tied_to, first_target, tie_at}
-use Rattle.mon_access.specs.declared.account.Account.{Account}
-use Rattle.mon_catalogue.specs.declared.data_set.DataSet.{DataSet}
-use Rattle.interaction.specs.declared.answer.Answer.{Answer}
-use Rattle.interaction.specs.declared.request.Request.{Request}
-use Rattle.mon_unit.specs.declared.tie.Target.{Target}
-use Rattle.mon_unit.specs.State.{UnitState}
+use Rattle.mon_unit.specs.{declared.tie.Tie.{Tie}, Tying.{tied_to, first_target, tie_at}, declared.tie.Target.{Target}, State.{UnitState}}
 use Rattle.mon_unit.specs.Serving.{acted_at, moved, note_act, note_target, noted, spooled, unit_of}
+use Rattle.mon_access.specs.declared.account.Account.{Account}
+use Rattle.interaction.specs.declared.{answer.Answer.{Answer}, request.Request.{Request}}
 
 abbrev pub first_tie : ℕ → Tie
 first_tie u = tied_to (first_target u)

@@ -1,34 +1,18 @@
 -- What is changed, and why something is denied, case by case.
 use Rattle.std.proofs.Common.{◌≡◌, ℕ, List, Option, None, Some, refl, ap, sym, ◌∙◌, subst, inl, inr, ◌⊎◌, slice_get}
-use Rattle.mon_access.specs.declared.account.Account.{Account}
-use Rattle.mon_access.specs.declared.access.Decision.{Decision}
+use Rattle.mon_access.specs.declared.{account.Account.{Account}, access.Decision.{Decision}}
 use Rattle.mon_access.specs.declared.access.Decision.TheVariants as decision
-use Rattle.mon_catalogue.specs.declared.mode.Mode.{Mode}
-use Rattle.mon_catalogue.specs.declared.mode.Mode.TheVariants.{Seq, Append}
-use Rattle.mon_catalogue.specs.declared.data_set.DataSet.{DataSet}
-use Rattle.mon_catalogue.specs.declared.data_set.SetFull.{SetFull}
-use Rattle.mon_catalogue.specs.Sets.{Sets, find_set}
-use Rattle.mon_catalogue.specs.Writing.{Change, Cut, writing, change_refusal}
-use Rattle.interaction.specs.declared.answer.Reason.{Reason}
-use Rattle.interaction.specs.declared.answer.Reason.TheVariants.{NoUnit, InStream, SpoolUnit}
-use Rattle.mon_guard.specs.Deciding.{decision_on, to_write}
-use Rattle.mon_guard.specs.inner.Parts.{by_decision, position_after, ended, or_denied}
+use Rattle.mon_catalogue.specs.declared.{mode.Mode.{Mode}, mode.Mode.TheVariants.{Seq, Append}, data_set.DataSet.{DataSet}}
+use Rattle.mon_catalogue.specs.{declared.data_set.SetFull.{SetFull}, Sets.{Sets, find_set}, Writing.{Change, Cut, writing, change_refusal}}
+use Rattle.interaction.specs.declared.{answer.Reason.{Reason}, answer.Reason.TheVariants.{NoUnit, InStream, SpoolUnit}, request.Act.{Act}}
+use Rattle.interaction.specs.declared.{request.Act.TheVariants.{Read, Write, Endfile, Rewind}, answer.Answer.TheVariants.{Done, Denied}}
+use Rattle.mon_guard.specs.{Deciding.{decision_on, to_write}, inner.Parts.{by_decision, position_after, ended, or_denied}}
+use Rattle.mon_guard.specs.{Acting.{Acted, only_answered, read_at, changing, acted_on, acted, changed}, Laws.{IsThere, IsGranted, IsFor, WhyNotAct}}
+use Rattle.mon_guard.proofs.{Acting.{acts_where_granted}, Shorthand.{made}}
 use Rattle.mon_guard.specs.Acting as acting
-use Rattle.mon_guard.specs.Acting.{Acted, only_answered, read_at, changing, acted_on, acted, changed}
-use Rattle.mon_guard.specs.Laws.{IsThere, IsGranted, IsFor, WhyNotAct}
-use Rattle.mon_guard.proofs.Acting.{acts_where_granted}
-use Rattle.interaction.specs.declared.request.Act.{Act}
-use Rattle.interaction.specs.declared.request.Act.TheVariants.{Read, Write, Endfile, Rewind}
-use Rattle.interaction.specs.declared.answer.Answer.TheVariants.{Done, Denied}
-use Rattle.mon_unit.specs.declared.tie.Target.{Target}
-use Rattle.mon_unit.specs.declared.tie.Target.TheVariants.{Untied, Data, Spool, Set}
-use Rattle.mon_unit.specs.State.{UnitState}
-use Rattle.mon_unit.specs.Serving.{acted_at, set_at}
-use Rattle.mon_unit.proofs.Changed.{changed_at}
+use Rattle.mon_unit.specs.{declared.tie.Target.{Target}, declared.tie.Target.TheVariants.{Untied, Data, Spool, Set}, State.{UnitState}}
+use Rattle.mon_unit.{specs.Serving.{acted_at, set_at}, proofs.Changed.{changed_at}, proofs.Acting.{acted_cases, is_plain}, proofs.Shorthand.{looked}}
 use Rattle.mon_unit.specs.Laws.{AsksChange, AsksGuard, IsOfData, IsOfSpool, ChangedWhereGranted, DenialsSayWhy, target_of, position_of}
-use Rattle.mon_unit.proofs.Acting.{acted_cases, is_plain}
-use Rattle.mon_unit.proofs.Shorthand.{looked}
-use Rattle.mon_guard.proofs.Shorthand.{made}
 
 module _ (account : Account) (units : UnitState) (sets : Sets) (p : ℕ) where
   -- what an act comes to at a unit that is tied so

@@ -1,33 +1,19 @@
 -- Each answer of a service fits what was asked.
 use Rattle.std.proofs.Common.{ℕ, List, Option, Some, None, refl, slice_get}
 use Rattle.std.specs.Prelude.{IsTrue}
-use Rattle.interaction.specs.Fitting.{fits, Fits}
-use Rattle.interaction.specs.declared.request.Act.{Act}
-use Rattle.interaction.specs.declared.request.Act.TheVariants.{Read, Write, Endfile, Rewind}
-use Rattle.interaction.specs.declared.request.Request.{Request}
-use Rattle.interaction.specs.declared.answer.Answer.TheVariants.{Denied}
-use Rattle.interaction.specs.declared.answer.Reason.{Reason}
+use Rattle.interaction.specs.{Fitting.{fits, Fits}, declared.request.Act.{Act}, declared.request.Act.TheVariants.{Read, Write, Endfile, Rewind}}
+use Rattle.interaction.specs.declared.{request.Request.{Request}, answer.Answer.TheVariants.{Denied}, answer.Reason.{Reason}}
 use Rattle.interaction.specs.declared.answer.Reason.TheVariants.{InStream}
 use Rattle.mon_acl.specs.declared.entries.Entry as acl
-use Rattle.mon_access.specs.declared.account.Account.{Account}
-use Rattle.mon_access.specs.declared.access.Decision.{Decision}
+use Rattle.mon_access.specs.declared.{account.Account.{Account}, access.Decision.{Decision}}
 use Rattle.mon_access.specs.declared.access.Decision.TheVariants as decision
-use Rattle.mon_catalogue.specs.declared.mode.Mode.{Mode}
-use Rattle.mon_catalogue.specs.declared.mode.Mode.TheVariants.{Seq, Append}
-use Rattle.mon_catalogue.specs.declared.data_set.DataSet.{DataSet}
-use Rattle.mon_catalogue.specs.declared.data_set.SetFull.{SetFull}
-use Rattle.mon_catalogue.specs.Writing.{Change, writing, change_refusal}
-use Rattle.mon_guard.specs.Deciding.{decision_on, to_read, to_write}
-use Rattle.mon_guard.specs.inner.Parts.{by_decision, ended, or_denied}
-use Rattle.mon_guard.specs.Acting as acting
-use Rattle.mon_guard.specs.Acting.{Acted, read_at, only_answered}
-use Rattle.mon_unit.specs.declared.tie.Target.{Target}
-use Rattle.mon_unit.specs.declared.tie.Target.TheVariants.{Untied, Data, Spool, Set}
-use Rattle.mon_unit.specs.State.{UnitState}
-use Rattle.mon_unit.specs.Serving.{Reach, serve, rewound, acted_at, on_set, set_of}
-use Rattle.mon_unit.specs.Laws.{target_of, position_of}
-use Rattle.mon_unit.proofs.Shorthand.{looked}
+use Rattle.mon_catalogue.specs.declared.{mode.Mode.{Mode}, mode.Mode.TheVariants.{Seq, Append}, data_set.DataSet.{DataSet}}
+use Rattle.mon_catalogue.specs.{declared.data_set.SetFull.{SetFull}, Writing.{Change, writing, change_refusal}}
+use Rattle.mon_guard.specs.{Deciding.{decision_on, to_read, to_write}, inner.Parts.{by_decision, ended, or_denied}, Acting.{Acted, read_at, only_answered}}
 use Rattle.mon_guard.proofs.Shorthand.{made}
+use Rattle.mon_guard.specs.Acting as acting
+use Rattle.mon_unit.specs.{declared.tie.Target.{Target}, declared.tie.Target.TheVariants.{Untied, Data, Spool, Set}, State.{UnitState}}
+use Rattle.mon_unit.{specs.Serving.{Reach, serve, rewound, acted_at, on_set, set_of}, specs.Laws.{target_of, position_of}, proofs.Shorthand.{looked}}
 
 denied_fits : (act : Act) (reason : Reason) → IsTrue (fits act (Denied reason))
 denied_fits (Read u) reason = refl

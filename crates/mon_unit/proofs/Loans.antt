@@ -1,20 +1,12 @@
 -- What a service that holds loans leaves, and that what it answered is the run by `serve`.
 use Rattle.std.proofs.Common.{◌≡◌, List, [], ◌∷◌, length, refl, sym, ap, ◌∙◌, subst}
-use Rattle.interaction.specs.Interactions.{Returns, Asks}
-use Rattle.interaction.specs.Exchanges.{AnswersAll}
-use Rattle.interaction.specs.declared.request.Request.{Request}
-use Rattle.interaction.specs.declared.answer.Answer.{Answer}
-use Rattle.interaction.specs.declared.answer.Answer.TheVariants.{Done}
-use Rattle.interaction.specs.Asking.{Asking, Exchange, IsTrace, IsTracePrefix}
-use Rattle.interaction.specs.Counting.{Moment, Beginning, Requesting, Counted, Passed, requests_in}
-use Rattle.interaction.proofs.Counting.{with_request}
+use Rattle.interaction.specs.{Interactions.{Returns, Asks}, Exchanges.{AnswersAll}, declared.request.Request.{Request}}
+use Rattle.interaction.{specs.declared.answer.Answer.{Answer}, specs.declared.answer.Answer.TheVariants.{Done}, proofs.Counting.{with_request}}
+use Rattle.interaction.specs.{Asking.{Asking, Exchange, IsTrace, IsTracePrefix}, Counting.{Moment, Beginning, Requesting, Counted, Passed, requests_in}}
 use Rattle.interaction.specs.Counting as counting
 use Rattle.mon_access.specs.declared.account.Account.{Account}
-use Rattle.mon_unit.specs.declared.service.UnitService.{UnitService}
-use Rattle.mon_unit.specs.Serving.{Reach, serve}
-use Rattle.mon_unit.specs.Lent.{SameLoans, UnitAnswers, reach_of}
-use Rattle.mon_unit.specs.Runs.{run, run_cut, passed}
-use Rattle.mon_unit.proofs.Runs.{passing}
+use Rattle.mon_unit.specs.{declared.service.UnitService.{UnitService}, Serving.{Reach, serve}, Lent.{SameLoans, UnitAnswers, reach_of}}
+use Rattle.mon_unit.{specs.Runs.{run, run_cut, passed}, proofs.Runs.{passing}}
 
 same_here : (s t : UnitService) → t ≡ s → SameLoans s t
 same_here s t h = record {

@@ -1,34 +1,16 @@
 -- A request looks at one data set at the most: what follows from what it sees, and what it leaves.
 use Rattle.std.proofs.Common.{◌≡◌, ◌≢◌, ℕ, zero, suc, nat_eq, Bool, true, false, List, [], ◌∷◌, map, Option, Some, None, option_map, refl, ap, sym, ◌∙◌, subst, slice_get}
-use Rattle.std.specs.Prelude.{slice_set}
-use Rattle.std.specs.Map.{keys_of}
-use Rattle.std.specs.Cmp.Lexicographic.{pointwise, bytes_decides}
-use Rattle.std.proofs.lemmas.Option.{slice_get-map}
+use Rattle.std.{specs.Prelude.{slice_set}, specs.Map.{keys_of}, specs.Cmp.Lexicographic.{pointwise, bytes_decides}, proofs.lemmas.Option.{slice_get-map}}
 use Rattle.mon_access.specs.declared.account.Account.{Account}
-use Rattle.mon_catalogue.specs.declared.data_set.DataSet.{DataSet}
-use Rattle.mon_catalogue.specs.Sets.{Sets, find_set}
-use Rattle.mon_catalogue.specs.Changes.{with_changed}
-use Rattle.mon_catalogue.specs.Writing.{Change, recorded}
+use Rattle.mon_catalogue.specs.{declared.data_set.DataSet.{DataSet}, Sets.{Sets, find_set}, Changes.{with_changed}, Writing.{Change, recorded}}
 use Rattle.mon_catalogue.proofs.Changed.{other_sets_stay, named_set_changes, order_stays}
-use Rattle.interaction.specs.declared.request.Act.{Act}
-use Rattle.interaction.specs.declared.request.Act.TheVariants.{Read, Write, Endfile, Rewind}
-use Rattle.interaction.specs.declared.request.Request.{Request}
-use Rattle.interaction.specs.declared.answer.Answer.{Answer}
-use Rattle.interaction.specs.Asking.{Asking}
-use Rattle.interaction.specs.declared.answer.Answer.TheVariants.{Done, Got, EndOfFile, Denied, Full}
-use Rattle.mon_unit.specs.declared.tie.Target.{Target}
-use Rattle.mon_unit.specs.declared.tie.Target.TheVariants.{Untied, Data, Spool, Set}
-use Rattle.mon_unit.specs.declared.tie.Tie.{Tie}
-use Rattle.mon_unit.specs.declared.note.NoteAct.{NoteAct}
-use Rattle.mon_unit.specs.declared.note.NoteTarget.{NoteTarget}
-use Rattle.mon_unit.specs.State.{UnitState}
-use Rattle.mon_unit.specs.Tying.{tie_at}
-use Rattle.mon_unit.specs.Serving.{Reach, unit_of, note_act, note_target, acted_at, noted, moved, spooled, set_at, set_of, serve}
-use Rattle.mon_unit.proofs.Changed.{Effect, effect, changed_at}
-use Rattle.mon_unit.specs.Runs.{run, run_cut}
-use Rattle.mon_unit.specs.Laws.{targets, TiedTo, Same, LooksOnce, OneLook, OneChange, KeepsToTies}
-use Rattle.mon_unit.proofs.Runs.{run_keeps, run_cut_keeps}
-use Rattle.mon_unit.proofs.Shorthand.{or_untied, looked}
+use Rattle.interaction.specs.declared.request.{Act.{Act}, Act.TheVariants.{Read, Write, Endfile, Rewind}, Request.{Request}}
+use Rattle.interaction.specs.{declared.answer.Answer.{Answer}, Asking.{Asking}, declared.answer.Answer.TheVariants.{Done, Got, EndOfFile, Denied, Full}}
+use Rattle.mon_unit.specs.declared.tie.{Target.{Target}, Target.TheVariants.{Untied, Data, Spool, Set}, Tie.{Tie}}
+use Rattle.mon_unit.specs.{declared.note.NoteAct.{NoteAct}, declared.note.NoteTarget.{NoteTarget}, State.{UnitState}, Tying.{tie_at}}
+use Rattle.mon_unit.specs.{Serving.{Reach, unit_of, note_act, note_target, acted_at, noted, moved, spooled, set_at, set_of, serve}, Runs.{run, run_cut}}
+use Rattle.mon_unit.{proofs.Changed.{Effect, effect, changed_at}, specs.Laws.{targets, TiedTo, Same, LooksOnce, OneLook, OneChange, KeepsToTies}}
+use Rattle.mon_unit.proofs.{Runs.{run_keeps, run_cut_keeps}, Shorthand.{or_untied, looked}}
 
 -- a change of one set keeps what was the same, the other sets and the names
 changed_same : (name other : List ℕ) (f : DataSet → DataSet) (sets others : Sets) → Same other sets others

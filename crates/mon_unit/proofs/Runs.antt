@@ -1,10 +1,7 @@
 -- What follows for a whole interaction from what holds of each question and its reply.
 use Rattle.std.proofs.Common.{◌≡◌, ℕ, zero, suc, List, [], ◌∷◌, refl, ap, ◌∙◌, subst}
-use Rattle.interaction.specs.Interactions.{Interaction, Returns, Asks, ◌>>=◌}
-use Rattle.interaction.specs.declared.request.Request.{Request}
-use Rattle.interaction.specs.declared.answer.Answer.{Answer}
-use Rattle.interaction.specs.declared.answer.Answer.TheVariants.{Done}
-use Rattle.interaction.specs.Fitting.{Fits}
+use Rattle.interaction.specs.{Interactions.{Interaction, Returns, Asks, ◌>>=◌}, declared.request.Request.{Request}, declared.answer.Answer.{Answer}}
+use Rattle.interaction.specs.{declared.answer.Answer.TheVariants.{Done}, Fitting.{Fits}}
 use Rattle.interaction.specs.Counting.{Moment, Beginning, Requesting, Counted, Passed, IsTracePrefix}
 use Rattle.mon_unit.specs.Runs.{run, run_cut, passed}
 

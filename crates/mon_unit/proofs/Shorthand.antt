@@ -1,11 +1,7 @@
 -- Parts of the definitions by names of their own.
-use Rattle.std.specs.Prelude.{ℕ, List, Option}
-use Rattle.std.specs.Option.{option_and_then, unwrap_or}
-use Rattle.mon_catalogue.specs.declared.data_set.DataSet.{DataSet}
-use Rattle.mon_catalogue.specs.Sets.{Sets, find_set}
-use Rattle.mon_unit.specs.declared.tie.Tie.{Tie}
-use Rattle.mon_unit.specs.declared.tie.Target.TheVariants.{Untied}
-use Rattle.mon_unit.specs.Tying.{tied_to}
+use Rattle.std.specs.{Prelude.{ℕ, List, Option}, Option.{option_and_then, unwrap_or}}
+use Rattle.mon_catalogue.specs.{declared.data_set.DataSet.{DataSet}, Sets.{Sets, find_set}}
+use Rattle.mon_unit.specs.{declared.tie.Tie.{Tie}, declared.tie.Target.TheVariants.{Untied}, Tying.{tied_to}}
 
 abbrev pub or_untied : Option Tie → Tie
 or_untied tie = unwrap_or tie (tied_to Untied)

@@ -1,13 +1,9 @@
 -- Lines that are gathered before they are put.
 use Rattle.std.proofs.Common.{◌≡◌, ◌∙◌, ap, sym, ℕ, ◌+◌, ◌-◌, ◌<◌, ◌≤◌, List, [], ◌∷◌, ◌++◌, length, take, drop, get_or, append_assoc, append-nil, arith}
-use Rattle.std.specs.Prelude.{slice_set}
-use Rattle.std.specs.List.{flat_map, slice_range}
+use Rattle.std.{specs.Prelude.{slice_set}, specs.List.{flat_map, slice_range}, proofs.Math.Seq.{take-append-add}, proofs.lemmas.List.Concat.{flat_map-append}}
 use Rattle.std.proofs.lemmas.List.{length-append, length-drop, length-take-le, take_all, take_more, take_more_set, take-append-le, take-take}
-use Rattle.std.proofs.Math.Seq.{take-append-add}
-use Rattle.std.proofs.lemmas.List.Concat.{flat_map-append}
 use lib.Seq.{take-add}
-use Rattle.mon_device.specs.Putting.{Standing, Puts, PutsBut}
-use Rattle.mon_device.proofs.Putting.{puts_same, puts_then, puts_three}
+use Rattle.mon_device.{specs.Putting.{Standing, Puts, PutsBut}, proofs.Putting.{puts_same, puts_then, puts_three}}
 
 -- what is behind a text that was put so far is put
 pub piece_put : (a b c : Standing) (bytes text : List ℕ) (from to : ℕ) → text ≡ bytes → from ≤ to → Puts a b (take from bytes) → Puts b c (slice_range text from to) → Puts a c (take to bytes)

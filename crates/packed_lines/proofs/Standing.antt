@@ -1,11 +1,9 @@
 -- How lines stand in memory when one is put behind them, or some are cut off.
 use Rattle.std.proofs.Common.{◌≡◌, ℕ, zero, suc, ◌+◌, ◌-◌, ◌<◌, ◌≤◌, List, [], ◌∷◌, ◌++◌, length, get_or, take, drop, refl, sym, ap, subst, ◌∙◌, arith, append_assoc, length-append}
-use Rattle.std.specs.Prelude.{slice_set}
-use Rattle.std.specs.List.{AllByRecursion, concat, slice_range}
-use Rattle.std.proofs.lemmas.List.FromFn.{get_or-map-range_with_len, length-map-range_with_len}
+use Rattle.std.specs.{Prelude.{slice_set}, List.{AllByRecursion, concat, slice_range}}
+use Rattle.std.proofs.lemmas.List.{FromFn.{get_or-map-range_with_len, length-map-range_with_len}, Concat.{flat_map-append}}
 use Rattle.std.proofs.lemmas.List.{ext_get_or, append-nil, take-append-le, take-append-drop, length-take-le, take_more_set}
 use Rattle.std.proofs.Math.Seq.{take-append_seam, take-append-add, drop-append-add, take-length}
-use Rattle.std.proofs.lemmas.List.Concat.{flat_map-append}
 use Rattle.mon_text.specs.Lines.{IsLine}
 use Rattle.packed_lines.specs.Packing.{pieces, printed, ends_of, start_of, IsPacked}
 

@@ -1,24 +1,15 @@
 -- What is written for a part is a round's deck.
 use Rattle.std.proofs.Common.{◌≡◌, ℕ, suc, ◌≤◌, Bool, true, false, List, [], ◌∷◌, ◌++◌, length, refl, sym, ap, ◌∙◌, arith, append_assoc, flat_map}
-use Rattle.std.specs.Prelude.{codes, filter, if◌then◌else◌, ◌==◌, nat_eq}
-use Rattle.std.specs.List.{AllByRecursion}
-use Rattle.std.specs.Cmp.Lexicographic.{pointwise}
-use Rattle.std.proofs.lemmas.Grind.{flat_map-append}
-use Rattle.std.proofs.lemmas.Map.Made.{IsDistinct-keys_filter}
-use Rattle.mon_catalogue.specs.declared.data_set.DataSet.{DataSet}
-use Rattle.mon_catalogue.specs.Sets.{Sets}
-use Rattle.mon_catalogue.specs.Stored.{IsStored, IsStoredSet}
+use Rattle.std.specs.{Prelude.{codes, filter, if◌then◌else◌, ◌==◌, nat_eq}, List.{AllByRecursion}, Cmp.Lexicographic.{pointwise}}
+use Rattle.std.proofs.lemmas.{Grind.{flat_map-append}, Map.Made.{IsDistinct-keys_filter}}
+use Rattle.mon_catalogue.specs.{declared.data_set.DataSet.{DataSet}, Sets.{Sets}, Stored.{IsStored, IsStoredSet}}
 use Rattle.mon_catalogue.specs.Text.{set_lines, text_of, catalogue_lines, catalogue_text}
 use Rattle.mon_text.specs.Lines.{IsLine}
-use Rattle.preflight.specs.declared.submission.Submission.{Submission}
-use Rattle.preflight.specs.Rounds.{Handed}
-use Rattle.parts_laws.specs.Picking.{part_of}
-use Rattle.parts_laws.specs.Runs.{Split}
+use Rattle.preflight.specs.{declared.submission.Submission.{Submission}, Rounds.{Handed}}
+use Rattle.parts_laws.specs.{Picking.{part_of}, Runs.{Split}}
 use Rattle.rounds.specs.Compositions.{AreAdmitted, with_fence, head_text, IsGoodRound}
 use Rattle.job_numbers.specs.Alone.{texts_of_part, PartsRunAlone}
-use Rattle.deck_parts.specs.declared.deck.SetText.{SetText}
-use Rattle.deck_parts.specs.Wholes.{fenced}
-use Rattle.deck_parts.specs.PartDecks.{set_in, texts_in}
+use Rattle.deck_parts.specs.{declared.deck.SetText.{SetText}, Wholes.{fenced}, PartDecks.{set_in, texts_in}}
 use Rattle.part_decks.specs.Laws.{AreSets, PartsAreWritten}
 
 -- what holds of all holds of some

@@ -1,15 +1,9 @@
 -- What is picked key by key is what is picked.
 use Rattle.std.proofs.Common.{◌≡◌, ℕ, Bool, List, [], ◌∷◌, ◌++◌, Option, Some, None, refl, ap, ◌∙◌, append_assoc, flat_map}
-use Rattle.std.specs.Prelude.{unwrap_or, nat_eq, ◌==◌, option_map}
-use Rattle.std.specs.Map.{lookup}
-use Rattle.std.specs.Global.{Vec}
+use Rattle.std.specs.{Prelude.{unwrap_or, nat_eq, ◌==◌, option_map}, Map.{lookup}, Global.{Vec}, Cmp.Lexicographic.{pointwise}}
 use Rattle.std.proofs.lemmas.Map.Made.{lookup-map_values}
-use Rattle.std.specs.Cmp.Lexicographic.{pointwise}
-use Rattle.parts_laws.specs.Picking.{and_if, picked}
-use Rattle.parts_laws.specs.Runs.{Split}
-use Rattle.parts.specs.Joining.{bytes_of, printed_in, left_in, texts_joined, sets_joined}
-use Rattle.parts.specs.declared.joining.Part.{Part}
-use Rattle.parts.specs.inner.Picks.{printout_of, set_of}
+use Rattle.parts_laws.specs.{Picking.{and_if, picked}, Runs.{Split}}
+use Rattle.parts.specs.{Joining.{bytes_of, printed_in, left_in, texts_joined, sets_joined}, declared.joining.Part.{Part}, inner.Picks.{printout_of, set_of}}
 
 module _ {K : Type 0} (same : K → K → Bool) (goes : K → ℕ) (parts : ℕ → List (K × List ℕ)) where
   abbrev one : K → List ℕ

@@ -1,18 +1,11 @@
 -- The tests tell splits.
 use Rattle.std.proofs.Common.{◌≡◌, ℕ, zero, suc, nat_eq, ◌<◌, ◌≤◌, max, Bool, true, false, cond, List, [], ◌∷◌, ◌++◌, length, Option, Some, None, refl, sym, ap, ◌∙◌, map, arith}
-use Rattle.std.specs.Prelude.{nat_lt, ◌==◌, ◌&&◌, ◌||◌, not, unwrap_or, slice_get}
-use Rattle.std.specs.List.{list_all, list_any, AllByRecursion, IsDistinct}
-use Rattle.std.specs.Map.{lookup, keys_of}
-use Rattle.std.specs.Cmp.Lexicographic.{pointwise, bytes_decides}
-use Rattle.std.proofs.lemmas.Bool.Decides.{nat_tests}
-use Rattle.std.proofs.Math.Nat.{le-max_right}
-use Rattle.std.proofs.lemmas.List.{length-append}
-use Rattle.std.proofs.lemmas.List.Folds.{list_all-map}
+use Rattle.std.specs.{Prelude.{nat_lt, ◌==◌, ◌&&◌, ◌||◌, not, unwrap_or, slice_get}, List.{list_all, list_any, AllByRecursion, IsDistinct}}
+use Rattle.std.specs.{Map.{lookup, keys_of}, Cmp.Lexicographic.{pointwise, bytes_decides}}
+use Rattle.std.proofs.{lemmas.Bool.Decides.{nat_tests}, Math.Nat.{le-max_right}, lemmas.List.{length-append}, lemmas.List.Folds.{list_all-map}}
 use Rattle.std.proofs.lemmas.Map.Keys.{IsDistinct-head, IsDistinct-tail}
 use Rattle.parts_laws.specs.Runs.{GoWithNames}
-use Rattle.parts.specs.Told.{Told}
-use Rattle.parts.specs.Splits.{speaks, goes, numbered, AreWithin}
-use Rattle.parts.specs.declared.text.Text.{Text}
+use Rattle.parts.specs.{Told.{Told}, Splits.{speaks, goes, numbered, AreWithin}, declared.text.Text.{Text}}
 use Rattle.parts.specs.inner.Tests.{goes_along, all_in, name_goes, are_within}
 
 both : (a b : Bool) → (a && b) ≡ true → (a ≡ true) × (b ≡ true)

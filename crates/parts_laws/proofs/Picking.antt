@@ -1,12 +1,8 @@
 -- What is picked from the parts is the whole.
 use Rattle.std.proofs.Common.{◌≡◌, ℕ, Bool, true, false, cond, List, [], ◌∷◌, Option, Some, None, refl, sym, ap, ◌∙◌, arith}
-use Rattle.std.specs.Prelude.{if◌then◌else◌, ◌==◌}
-use Rattle.std.specs.Map.{lookup, keys_of}
-use Rattle.std.specs.List.{AllByRecursion, IsDistinct}
-use Rattle.std.proofs.lemmas.Bool.Decides.{nat_tests}
-use Rattle.std.proofs.lemmas.Map.Keys.{IsDistinct-head, IsDistinct-tail}
-use Rattle.parts_laws.specs.Picking.{Decides, part_of, and_if, picked, shown}
-use Rattle.parts_laws.specs.Laws.{PickedIsAll}
+use Rattle.std.specs.{Prelude.{if◌then◌else◌, ◌==◌}, Map.{lookup, keys_of}, List.{AllByRecursion, IsDistinct}}
+use Rattle.std.proofs.lemmas.{Bool.Decides.{nat_tests}, Map.Keys.{IsDistinct-head, IsDistinct-tail}}
+use Rattle.parts_laws.specs.{Picking.{Decides, part_of, and_if, picked, shown}, Laws.{PickedIsAll}}
 
 pub itself : (n : ℕ) → (n == n) ≡ true
 itself n = grind (arith, nat_tests)

@@ -1,12 +1,8 @@
 -- A part runs as the whole does.
 use Rattle.std.proofs.Common.{◌≡◌, ℕ, Bool, true, false, List, [], ◌∷◌, Some, refl, sym, ap, ◌∙◌, subst, arith}
-use Rattle.std.specs.Prelude.{if◌then◌else◌, ◌==◌, not, filter}
-use Rattle.std.specs.Map.{lookup, keys_of}
-use Rattle.std.proofs.lemmas.Bool.Decides.{nat_tests}
-use Rattle.std.specs.List.{IsDistinct}
-use Rattle.parts_laws.specs.Picking.{Decides, part_of, and_if, picked, shown}
+use Rattle.std.{specs.Prelude.{if◌then◌else◌, ◌==◌, not, filter}, specs.Map.{lookup, keys_of}, proofs.lemmas.Bool.Decides.{nat_tests}, specs.List.{IsDistinct}}
+use Rattle.parts_laws.specs.{Picking.{Decides, part_of, and_if, picked, shown}, Laws.{IsItsPart, EachItsPart, PickedIsWhole}}
 use Rattle.parts_laws.specs.Runs.{Machine, IsReady, IsFramed, IsLocal, Numbered, Ran, and_ran, ran, Split, part_ran, GoWithNames, AreReady, numbers}
-use Rattle.parts_laws.specs.Laws.{IsItsPart, EachItsPart, PickedIsWhole}
 use Rattle.parts_laws.proofs.Picking.{itself, picked_is_all, shown_all}
 
 same_number : (n k m : ℕ) → n ≡ m → (m == k) ≡ true → (n == k) ≡ true

@@ -1,15 +1,10 @@
 -- The marks of the parts are marks of the whole.
 use Rattle.std.proofs.Common.{◌≡◌, ℕ, ◌+◌, Bool, true, false, List, [], ◌∷◌, ◌++◌, refl, sym, ap, ◌∙◌, subst, arith}
-use Rattle.std.specs.Prelude.{◌==◌, if◌then◌else◌, filter}
-use Rattle.std.specs.List.{AllByRecursion, IsDistinct}
+use Rattle.std.specs.{Prelude.{◌==◌, if◌then◌else◌, filter}, List.{AllByRecursion, IsDistinct}, Map.{keys_of}}
 use Rattle.std.proofs.lemmas.Map.Keys.{IsDistinct-head, IsDistinct-tail, IsDistinct-cons}
-use Rattle.std.specs.Map.{keys_of}
-use Rattle.parts_laws.specs.Picking.{part_of, picked}
-use Rattle.parts_laws.specs.Runs.{Numbered, Ran, and_ran, ran, Split, part_ran, GoWithNames, made_by, numbers}
-use Rattle.parts_laws.specs.Threads.{Taken, Taking, machine_of, TakesFirst, threaded, with_marks, owning}
-use Rattle.parts_laws.specs.Laws.{part_threaded, MarksPicked}
-use Rattle.parts_laws.proofs.Picking.{itself}
-use Rattle.parts_laws.proofs.Running.{picked_alike, equal, picked_is_whole}
+use Rattle.parts_laws.specs.{Picking.{part_of, picked}, Runs.{Numbered, Ran, and_ran, ran, Split, part_ran, GoWithNames, made_by, numbers}}
+use Rattle.parts_laws.specs.{Threads.{Taken, Taking, machine_of, TakesFirst, threaded, with_marks, owning}, Laws.{part_threaded, MarksPicked}}
+use Rattle.parts_laws.proofs.{Picking.{itself}, Running.{picked_alike, equal, picked_is_whole}}
 
 abbrev Differ : List ℕ → Type 0
 Differ ns = IsDistinct (λ n m. n == m) ns

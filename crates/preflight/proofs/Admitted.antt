@@ -1,18 +1,12 @@
 -- A text that is admitted goes with whatever follows it, and asks for its account alone.
 use Rattle.std.proofs.Common.{◌≡◌, ℕ, ◌+◌, List, [], ◌∷◌, ◌++◌, Option, Some, None, refl, sym, ap, subst, ◌∙◌}
-use Rattle.std.specs.Option.{option_map_or}
-use Rattle.std.specs.List.{AllByRecursion}
+use Rattle.std.specs.{Option.{option_map_or}, List.{AllByRecursion}}
 use Rattle.deck_lines.specs.Commands.{account_of}
-use Rattle.deck_reader.specs.declared.stream_reader.Event.{Event}
+use Rattle.deck_reader.specs.{declared.stream_reader.Event.{Event}, Events.{refusal_in, event_in, open_after}}
 use Rattle.deck_reader.specs.declared.stream_reader.Event.TheVariants as event
-use Rattle.deck_reader.specs.Events.{refusal_in, event_in, open_after}
-use Rattle.deck_syntax.specs.Decks.{Asked}
-use Rattle.deck_syntax.specs.Sections.{Open, Closed, InList, InJob}
-use Rattle.preflight.specs.declared.why.Why.{Why}
-use Rattle.preflight.specs.Examined.{IsOwn, Verdict, Admits, Refuses}
-use Rattle.preflight.specs.inner.Reading.{asks_of, refused_to, why_in, and_then, all_then, examined}
-use Rattle.preflight.proofs.Goes.{Goes, further, stepped}
-use Rattle.preflight.proofs.Verdicts.{none_both, is_own}
+use Rattle.deck_syntax.specs.{Decks.{Asked}, Sections.{Open, Closed, InList, InJob}}
+use Rattle.preflight.{specs.declared.why.Why.{Why}, specs.Examined.{IsOwn, Verdict, Admits, Refuses}, proofs.Goes.{Goes, further, stepped}}
+use Rattle.preflight.{specs.inner.Reading.{asks_of, refused_to, why_in, and_then, all_then, examined}, proofs.Verdicts.{none_both, is_own}}
 
 pub record Fine (own : List ℕ) (n : ℕ) (pending : Open) (ls : List (List ℕ)) (asked : List Asked) : Type 0 where
   pub goes : Goes n pending ls asked

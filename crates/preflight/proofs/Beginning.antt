@@ -1,22 +1,14 @@
 -- The lines before a refused one begin a text that its account may hand in: what closes it.
 use Rattle.std.proofs.Common.{◌≡◌, ℕ, suc, ◌+◌, Bool, true, false, if◌then◌else◌, List, [], ◌∷◌, ◌++◌, take, Option, Some, None, refl, ap, ◌∙◌, arith}
-use Rattle.std.specs.Prelude.{codes}
-use Rattle.std.specs.Option.{option_map_or}
+use Rattle.std.specs.{Prelude.{codes}, Option.{option_map_or}}
 use Rattle.deck_lines.specs.Refusing.{is_dollar_line}
 use Rattle.deck_reader.specs.Events.{refusal_in, event_in, event_of, opened_by, open_after}
-use Rattle.deck_syntax.specs.declared.request.Request.{Request}
+use Rattle.deck_syntax.specs.{declared.request.Request.{Request}, Decks.{Asked, Commands, Enters}, Jobs.{ends_job, after_job_line}}
+use Rattle.deck_syntax.specs.{Requests.{with_line, set_acl_of, request_on}, Sections.{Open, Closed, InList, InJob}}
 use Rattle.deck_syntax.specs.declared.request.Request.TheVariants as request
-use Rattle.deck_syntax.specs.Decks.{Asked, Commands, Enters}
-use Rattle.deck_syntax.specs.Jobs.{ends_job, after_job_line}
-use Rattle.deck_syntax.specs.Requests.{with_line, set_acl_of, request_on}
-use Rattle.deck_syntax.specs.Sections.{Open, Closed, InList, InJob}
-use Rattle.preflight.specs.declared.why.Why.{Why}
-use Rattle.preflight.specs.declared.why.Why.TheVariants.{Unfinished}
-use Rattle.preflight.specs.Examined.{Admits, Refuses}
+use Rattle.preflight.specs.{declared.why.Why.{Why}, declared.why.Why.TheVariants.{Unfinished}, Examined.{Admits, Refuses}}
 use Rattle.preflight.specs.inner.Reading.{asks_of, refused_to, why_in, all_then, examined}
-use Rattle.preflight.proofs.Good.{OpenIsOwn, same_account}
-use Rattle.preflight.proofs.Refusals.{place, behind_refused}
-use Rattle.preflight.proofs.Verdicts.{all_admitted, none_both, is_own, not_foreign}
+use Rattle.preflight.proofs.{Good.{OpenIsOwn, same_account}, Refusals.{place, behind_refused}, Verdicts.{all_admitted, none_both, is_own, not_foreign}}
 
 -- what closes what is open
 abbrev closing : Open → List (List ℕ)

@@ -1,15 +1,10 @@
 -- Texts that are admitted make a good deck.
 use Rattle.std.proofs.Common.{ℕ, ◌+◌, List, [], ◌∷◌, ◌++◌, refl, ap, ◌∙◌, append_assoc}
 use Rattle.std.specs.Prelude.{codes}
-use Rattle.deck_syntax.specs.Decks.{Asked, Drains}
-use Rattle.deck_syntax.specs.Sections.{Closed, asked_then, stream_section}
-use Rattle.deck_syntax.proofs.ComingBack.{good_deck}
-use Rattle.deck_syntax.proofs.Complete.{deck_taken}
-use Rattle.preflight.specs.Rounds.{Handed, AreHanded, stream_lines, stream_asks, round_lines, round_deck}
-use Rattle.preflight.specs.Laws.{NeverRefused}
-use Rattle.preflight.proofs.Goes.{Goes, with_asked, joined}
-use Rattle.preflight.proofs.Written.{round_reads}
-use Rattle.preflight.proofs.Spelled.{spelled_goes, goes_spelled}
+use Rattle.deck_syntax.specs.{Decks.{Asked, Drains}, Sections.{Closed, asked_then, stream_section}}
+use Rattle.deck_syntax.proofs.{ComingBack.{good_deck}, Complete.{deck_taken}}
+use Rattle.preflight.specs.{Rounds.{Handed, AreHanded, stream_lines, stream_asks, round_lines, round_deck}, Laws.{NeverRefused}}
+use Rattle.preflight.proofs.{Goes.{Goes, with_asked, joined}, Written.{round_reads}, Spelled.{spelled_goes, goes_spelled}}
 
 -- lines that go, and lines behind them that go from every number on
 pub both_go : (n : ℕ) (ls ms : List (List ℕ)) (asked others : List Asked) → Goes n Closed ls asked → ((m : ℕ) → Goes m Closed ms others) → Goes n Closed (ls ++ ms) (asked ++ others)

@@ -1,13 +1,9 @@
 -- A text is found admitted exactly where it spells whole cards of its account.
 use Rattle.std.proofs.Common.{◌≡◌, ℕ, List}
 use Rattle.std.specs.Prelude.{◌↔◌}
-use Rattle.deck_syntax.specs.Decks.{Asked}
-use Rattle.deck_syntax.specs.Sections.{Closed}
-use Rattle.preflight.specs.Examined.{IsSubmission, Admits}
-use Rattle.preflight.specs.inner.Reading.{examined}
-use Rattle.preflight.proofs.Admitted.{admitted}
-use Rattle.preflight.proofs.Good.{taken}
-use Rattle.preflight.proofs.Spelled.{spelled_goes, goes_spelled}
+use Rattle.deck_syntax.specs.{Decks.{Asked}, Sections.{Closed}}
+use Rattle.preflight.specs.{Examined.{IsSubmission, Admits}, inner.Reading.{examined}}
+use Rattle.preflight.proofs.{Admitted.{admitted}, Good.{taken}, Spelled.{spelled_goes, goes_spelled}}
 
 pub admits_exactly : (own : List ℕ) (ls : List (List ℕ)) (asked : List Asked) → (examined own 1 Closed ls ≡ Admits asked) ↔ IsSubmission own ls asked
 admits_exactly own ls asked = (

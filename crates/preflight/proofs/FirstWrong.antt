@@ -1,23 +1,14 @@
 -- Each text has one verdict: what is found of it line by line.
 use Rattle.std.proofs.Common.{◌≡◌, ℕ, zero, suc, ◌+◌, ◌-◌, ◌≤◌, ◌<◌, ◌⊎◌, inl, inr, List, [], ◌∷◌, ◌++◌, length, take, drop, refl, sym, ap, subst, ◌∙◌, append_assoc, arith, Result, Err, IfErr}
-use Rattle.std.proofs.lemmas.Bool.{cases_lt}
-use Rattle.std.proofs.lemmas.List.{take-append-drop}
+use Rattle.std.proofs.lemmas.{Bool.{cases_lt}, List.{take-append-drop}}
 use Rattle.mon_text.specs.declared.stop.Stop.{Stop}
 use Rattle.mon_text.specs.declared.stop.Stop.TheVariants as stop
-use Rattle.deck_lines.specs.declared.deck_error.DeckError.{DeckError}
-use Rattle.deck_lines.specs.declared.deck_error.DeckError.TheVariants.{Truncated}
-use Rattle.deck_syntax.specs.Decks.{Asked, Ending, Stopped, Refused}
-use Rattle.deck_syntax.specs.Sections.{Closed, stream_section}
-use Rattle.preflight.specs.declared.why.Why.{Why}
-use Rattle.preflight.specs.declared.why.Why.TheVariants.{Line, Foreign, Stops, Unfinished}
-use Rattle.preflight.specs.declared.why.Refusal.{Refusal}
+use Rattle.deck_lines.specs.declared.deck_error.DeckError.{DeckError, TheVariants.{Truncated}}
+use Rattle.deck_syntax.specs.{Decks.{Asked, Ending, Stopped, Refused}, Sections.{Closed, stream_section}}
+use Rattle.preflight.specs.declared.why.{Why.{Why}, Why.TheVariants.{Line, Foreign, Stops, Unfinished}, Refusal.{Refusal}}
 use Rattle.preflight.specs.Examined.{IsSubmission, BeginsGood, NeverGood, stream_ending, IsWrong, IsFirstWrong, Verdict, Admits, Refuses, IsVerdict}
-use Rattle.preflight.specs.Laws.{OneVerdict}
-use Rattle.preflight.specs.Submissions.{IfStopped}
-use Rattle.preflight.specs.inner.Reading.{examined}
-use Rattle.preflight.proofs.Beginning.{Begins, begins}
-use Rattle.preflight.proofs.Exactly.{admits_exactly}
-use Rattle.preflight.proofs.Refusals.{EndsFor, Stands, stands}
+use Rattle.preflight.specs.{Laws.{OneVerdict}, Submissions.{IfStopped}, inner.Reading.{examined}}
+use Rattle.preflight.proofs.{Beginning.{Begins, begins}, Exactly.{admits_exactly}, Refusals.{EndsFor, Stands, stands}}
 
 -- ---- what is found is the verdict
 

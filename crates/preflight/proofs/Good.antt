@@ -1,32 +1,20 @@
 -- A text that goes with whatever follows it, and asks for its account alone, is admitted.
 use Rattle.std.proofs.Common.{◌≡◌, ℕ, ◌+◌, Bool, true, false, if◌then◌else◌, List, [], ◌∷◌, ◌++◌, Option, Some, None, refl, sym, ap, ap₂, subst, ◌∙◌}
-use Rattle.std.specs.Prelude.{option_map}
-use Rattle.std.specs.Option.{option_or, option_map_or}
-use Rattle.std.specs.List.{AllByRecursion}
+use Rattle.std.specs.{Prelude.{option_map}, Option.{option_or, option_map_or}, List.{AllByRecursion}}
 use Rattle.mon_text.specs.Lines.{words}
-use Rattle.deck_lines.specs.Commands.{account_of}
-use Rattle.deck_lines.specs.Refusing.{is_dollar_line}
-use Rattle.deck_lines.specs.declared.deck_error.DeckError.{DeckError}
+use Rattle.deck_lines.specs.{Commands.{account_of}, Refusing.{is_dollar_line}, declared.deck_error.DeckError.{DeckError}}
 use Rattle.deck_lines.specs.declared.deck_error.DeckError.TheVariants.{OutOfPlace, Truncated}
-use Rattle.deck_reader.specs.declared.stream_reader.Event.{Event}
-use Rattle.deck_reader.specs.declared.stream_reader.Event.TheVariants as event
-use Rattle.deck_reader.specs.Events.{refusal_in, event_in, event_of, opened_by, open_after, event_then}
+use Rattle.deck_reader.specs.{declared.stream_reader.Event.{Event}, Events.{refusal_in, event_in, event_of, opened_by, open_after, event_then}}
 use Rattle.deck_reader.proofs.Following.{by_event}
-use Rattle.deck_syntax.specs.declared.request.Request.{Request}
-use Rattle.deck_syntax.specs.declared.request.Request.TheVariants as request
-use Rattle.deck_syntax.specs.declared.job.OpenJob.{OpenJob}
-use Rattle.deck_syntax.specs.Decks.{Cards, Asked, Ending, Stopped, Refused}
-use Rattle.deck_syntax.specs.Jobs.{is_job_card_line, ends_job, after_job_line, unit_on}
-use Rattle.deck_syntax.specs.Requests.{with_line, set_acl_of, request_on}
-use Rattle.deck_syntax.specs.Sections.{Open, Closed, InList, InJob, asked_then, stream_section}
-use Rattle.deck_syntax.specs.inner.Parts.{with_unit, with_program_line, program_text}
+use Rattle.deck_reader.specs.declared.stream_reader.Event.TheVariants as event
+use Rattle.deck_syntax.specs.{declared.request.Request.{Request}, declared.job.OpenJob.{OpenJob}, Decks.{Cards, Asked, Ending, Stopped, Refused}}
+use Rattle.deck_syntax.specs.{Jobs.{is_job_card_line, ends_job, after_job_line, unit_on}, Requests.{with_line, set_acl_of, request_on}}
+use Rattle.deck_syntax.specs.{Sections.{Open, Closed, InList, InJob, asked_then, stream_section}, inner.Parts.{with_unit, with_program_line, program_text}}
 use Rattle.deck_syntax.proofs.Shorthand.{goes_on}
-use Rattle.preflight.specs.declared.why.Why.{Why}
-use Rattle.preflight.specs.declared.why.Why.TheVariants.{Line}
-use Rattle.preflight.specs.Examined.{IsOwn, Admits, Refuses}
+use Rattle.deck_syntax.specs.declared.request.Request.TheVariants as request
+use Rattle.preflight.specs.{declared.why.Why.{Why}, declared.why.Why.TheVariants.{Line}, Examined.{IsOwn, Admits, Refuses}}
 use Rattle.preflight.specs.inner.Reading.{asks_of, refused_to, why_in, all_then, examined}
-use Rattle.preflight.proofs.Goes.{stop, Goes, with_asked, good_line, stepped}
-use Rattle.preflight.proofs.Verdicts.{all_admitted, not_foreign}
+use Rattle.preflight.proofs.{Goes.{stop, Goes, with_asked, good_line, stepped}, Verdicts.{all_admitted, not_foreign}}
 
 -- a deck that is refused has not stopped
 pub not_stopped : {A : Type 0} (n : ℕ) (code : DeckError) → Refused n code ≡ Stopped → A

@@ -2,16 +2,10 @@
 use Rattle.std.proofs.Common.{◌≡◌, ℕ, List, length, sym, ap, subst, ◌∙◌}
 use Rattle.std.specs.Str.Lines.{lines}
 use Rattle.mon_catalogue.specs.Text.{text_of}
-use Rattle.deck_syntax.specs.Decks.{Asked}
-use Rattle.deck_syntax.specs.Sections.{Closed}
-use Rattle.preflight.specs.declared.tally.Tally.{Tally}
-use Rattle.preflight.specs.declared.submission.Submission.{Submission}
-use Rattle.preflight.specs.Examined.{IsSubmission, Admits}
-use Rattle.preflight.specs.inner.Reading.{examined}
-use Rattle.preflight.specs.Submissions.{IsAdmitted, lines_of}
-use Rattle.preflight.specs.Tallies.{tally_of}
-use Rattle.preflight.proofs.Exactly.{admits_exactly}
-use Rattle.preflight.proofs.Written.{lines_of_writable, stream_writable}
+use Rattle.deck_syntax.specs.{Decks.{Asked}, Sections.{Closed}}
+use Rattle.preflight.specs.{declared.tally.Tally.{Tally}, declared.submission.Submission.{Submission}, Examined.{IsSubmission, Admits}, Tallies.{tally_of}}
+use Rattle.preflight.specs.{inner.Reading.{examined}, Submissions.{IsAdmitted, lines_of}}
+use Rattle.preflight.proofs.{Exactly.{admits_exactly}, Written.{lines_of_writable, stream_writable}}
 
 pub same_lines : (own : List ℕ) (ls : List (List ℕ)) (asked : List Asked) → examined own 1 Closed ls ≡ Admits asked → lines (text_of ls) ≡ ls
 same_lines own ls asked is = lines_of_writable ls (stream_writable asked ls ((admits_exactly own ls asked).0 is).spelled)

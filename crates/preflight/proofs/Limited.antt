@@ -1,12 +1,8 @@
 -- Each limit is that of the number that has its name.
 use Rattle.std.proofs.Common.{◌≡◌, ℕ, ◌+◌, ◌≤◌, ◌<◌, Bool, true, false, nat_lt, if◌then◌else◌, Option, Some, None, refl, ap, subst, ◌∙◌, arith}
-use Rattle.std.specs.Option.{option_or}
-use Rattle.std.proofs.lemmas.Bool.Decides.{nat_tests}
-use Rattle.preflight.specs.declared.quota.Quota.{Quota}
-use Rattle.preflight.specs.declared.quota.HandedIn.{HandedIn}
-use Rattle.preflight.specs.declared.quota.Limit.{Limit}
+use Rattle.std.{specs.Option.{option_or}, proofs.lemmas.Bool.Decides.{nat_tests}}
+use Rattle.preflight.specs.{declared.quota.Quota.{Quota}, declared.quota.HandedIn.{HandedIn}, declared.quota.Limit.{Limit}, Allowances.{above, broken_limit}}
 use Rattle.preflight.specs.declared.quota.Limit.TheVariants.{Texts, Bytes, Jobs, Statements, Largest, Work, DataSets, Records}
-use Rattle.preflight.specs.Allowances.{above, broken_limit}
 use Rattle.preflight.specs.Laws.{AreWithin, IsAbove, LimitsAreTold}
 
 -- ---- one limit, and those behind it

@@ -1,24 +1,14 @@
 -- Where a text has come to after some lines, and what is answered at its end.
 use Rattle.std.proofs.Common.{◌≡◌, ℕ, ◌+◌, List, [], ◌∷◌, ◌++◌, Option, Some, None, refl, sym, ap, subst, ◌∙◌, Result, IfOk, IfErr, append-nil}
-use Rattle.std.specs.Option.{option_map_or}
-use Rattle.std.specs.Str.Lines.{lines}
+use Rattle.std.specs.{Option.{option_map_or}, Str.Lines.{lines}}
 use Rattle.mon_text.specs.declared.stop.Stop.{Stop}
 use Rattle.mon_text.specs.declared.stop.Stop.TheVariants as stop
 use Rattle.deck_reader.specs.Events.{event_in, open_after}
-use Rattle.deck_syntax.specs.Decks.{Asked}
-use Rattle.deck_syntax.specs.Sections.{Open, Closed, InList, InJob}
-use Rattle.preflight.specs.declared.intake.Counts.{Counts}
-use Rattle.preflight.specs.declared.tally.Tally.{Tally}
-use Rattle.preflight.specs.declared.why.Why.{Why}
-use Rattle.preflight.specs.declared.why.Refusal.{Refusal}
-use Rattle.preflight.specs.declared.why.Why.TheVariants.{Unfinished}
-use Rattle.preflight.specs.Examined.{Admits, Refuses}
-use Rattle.preflight.specs.inner.Reading.{asks_of, why_in, all_then, at_end, examined}
-use Rattle.preflight.specs.Submissions.{IfStopped}
-use Rattle.preflight.specs.Tallies.{tally_of}
-use Rattle.preflight.specs.inner.Counts.{IsBelow, Counted, refusal_at, ended}
-use Rattle.preflight.proofs.Tallying.{nothing_below}
-use Rattle.preflight.proofs.Verdicts.{both_then, all_admitted, all_refused}
+use Rattle.deck_syntax.specs.{Decks.{Asked}, Sections.{Open, Closed, InList, InJob}}
+use Rattle.preflight.specs.declared.{intake.Counts.{Counts}, tally.Tally.{Tally}, why.Why.{Why}, why.Refusal.{Refusal}}
+use Rattle.preflight.specs.{declared.why.Why.TheVariants.{Unfinished}, Examined.{Admits, Refuses}, inner.Reading.{asks_of, why_in, all_then, at_end, examined}}
+use Rattle.preflight.specs.{Submissions.{IfStopped}, Tallies.{tally_of}, inner.Counts.{IsBelow, Counted, refusal_at, ended}}
+use Rattle.preflight.proofs.{Tallying.{nothing_below}, Verdicts.{both_then, all_admitted, all_refused}}
 
 -- after these lines the rest of the text stands here
 pub record Reached (own text : List ℕ) (place : Open) (counts : Counts) (left : List ℕ) : Type 0 where

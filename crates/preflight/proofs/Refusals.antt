@@ -1,24 +1,14 @@
 -- A refusal is settled by the lines up to it, and so is what it is for.
 use Rattle.std.proofs.Common.{◌≡◌, ℕ, suc, ◌+◌, ◌<◌, ◌⊎◌, inl, inr, Bool, true, false, if◌then◌else◌, List, [], ◌∷◌, ◌++◌, length, take, bytes_eq, Option, Some, None, refl, sym, ap, subst, ◌∙◌, arith}
-use Rattle.std.specs.Prelude.{option_map}
-use Rattle.std.specs.Option.{option_or, option_map_or}
-use Rattle.deck_lines.specs.Commands.{account_of}
-use Rattle.deck_lines.specs.declared.deck_error.DeckError.{DeckError}
-use Rattle.deck_lines.specs.declared.deck_error.DeckError.TheVariants.{Truncated}
-use Rattle.deck_reader.specs.declared.stream_reader.Event.{Event}
+use Rattle.std.specs.{Prelude.{option_map}, Option.{option_or, option_map_or}}
+use Rattle.deck_lines.specs.{Commands.{account_of}, declared.deck_error.DeckError.{DeckError}, declared.deck_error.DeckError.TheVariants.{Truncated}}
+use Rattle.deck_reader.{specs.declared.stream_reader.Event.{Event}, specs.Events.{refusal_in, event_in, open_after, event_then}, proofs.Following.{by_event}}
 use Rattle.deck_reader.specs.declared.stream_reader.Event.TheVariants as event
-use Rattle.deck_reader.specs.Events.{refusal_in, event_in, open_after, event_then}
-use Rattle.deck_reader.proofs.Following.{by_event}
-use Rattle.deck_syntax.specs.Decks.{Cards, Asked, Ending, Stopped, Refused}
-use Rattle.deck_syntax.specs.Sections.{Open, Closed, InList, InJob, stream_section}
+use Rattle.deck_syntax.specs.{Decks.{Cards, Asked, Ending, Stopped, Refused}, Sections.{Open, Closed, InList, InJob, stream_section}}
 use Rattle.deck_syntax.proofs.Shorthand.{goes_on}
-use Rattle.preflight.specs.declared.why.Why.{Why}
-use Rattle.preflight.specs.declared.why.Why.TheVariants.{Line, Foreign, Stops, Unfinished}
-use Rattle.preflight.specs.Examined.{Verdict, Admits, Refuses}
+use Rattle.preflight.specs.{declared.why.Why.{Why}, declared.why.Why.TheVariants.{Line, Foreign, Stops, Unfinished}, Examined.{Verdict, Admits, Refuses}}
 use Rattle.preflight.specs.inner.Reading.{asks_of, foreign, refused_to, why_in, and_then, all_then, examined}
-use Rattle.preflight.proofs.Admitted.{goes_on as not_stops}
-use Rattle.preflight.proofs.Goes.{stepped}
-use Rattle.preflight.proofs.Verdicts.{all_refused, none_both}
+use Rattle.preflight.proofs.{Admitted.{goes_on as not_stops}, Goes.{stepped}, Verdicts.{all_refused, none_both}}
 
 -- how a deck's stream ends that has the lines up to number k, by what line k is refused for
 abbrev pub EndsFor : ℕ → Why → Ending → Type 0

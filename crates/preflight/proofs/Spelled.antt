@@ -1,13 +1,9 @@
 -- Lines spell what they ask for exactly where they go with whatever follows them.
 use Rattle.std.proofs.Common.{◌≡◌, ℕ, ◌⊎◌, inl, inr, List, [], ◌∷◌, ◌++◌, refl, sym, ap, subst, ◌∙◌, append_assoc, append-nil}
 use Rattle.deck_lines.specs.declared.deck_error.DeckError.TheVariants.{Truncated}
-use Rattle.deck_syntax.specs.Decks.{Cards, Asked, Stopped}
-use Rattle.deck_syntax.specs.Sections.{Closed, asked_then, stream_section}
-use Rattle.deck_syntax.specs.Spelling.{SpellsStream}
-use Rattle.deck_syntax.proofs.Complete.{stream_blanks, asked_taken, stream_taken}
-use Rattle.deck_syntax.proofs.Sound.{Stream, streams}
-use Rattle.preflight.proofs.Goes.{stop, Goes}
-use Rattle.preflight.proofs.Good.{not_stopped, goes_on_there}
+use Rattle.deck_syntax.specs.{Decks.{Cards, Asked, Stopped}, Sections.{Closed, asked_then, stream_section}, Spelling.{SpellsStream}}
+use Rattle.deck_syntax.proofs.{Complete.{stream_blanks, asked_taken, stream_taken}, Sound.{Stream, streams}}
+use Rattle.preflight.proofs.{Goes.{stop, Goes}, Good.{not_stopped, goes_on_there}}
 
 pub spelled_goes : (asked : List Asked) (ls : List (List ℕ)) (n : ℕ) → SpellsStream ls asked → Goes n Closed ls asked
 spelled_goes [] ls n are = λ more. stream_blanks ls more n are

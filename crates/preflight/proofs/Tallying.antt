@@ -1,24 +1,17 @@
 -- The tally of what is asked, with one card more.
 use Rattle.std.proofs.Common.{◌≡◌, ℕ, ◌+◌, ◌*◌, ◌≤◌, max, Bool, true, false, cond, List, [], ◌∷◌, ◌++◌, length, refl, sym, ap, ◌∙◌, arith, append-nil, length-append, true≢false, subst, ◌⊎◌, inl, inr}
 use Rattle.std.specs.Prelude.{fold, sum_by, count_by}
-use Rattle.std.proofs.lemmas.List.Sums.{sum_by-append, sum_by-cons, fold-append}
-use Rattle.std.proofs.lemmas.Nat.{mul-le}
-use Rattle.std.proofs.Math.Nat.{add-zero}
-use Rattle.sno_cards.specs.declared.limits.Limits.{Limits}
-use Rattle.sno_cards.specs.Limits.{AreLimits}
-use Rattle.deck_lines.specs.declared.command.Command.{Command}
+use Rattle.std.proofs.{lemmas.List.Sums.{sum_by-append, sum_by-cons, fold-append}, lemmas.Nat.{mul-le}, Math.Nat.{add-zero}}
+use Rattle.sno_cards.specs.{declared.limits.Limits.{Limits}, Limits.{AreLimits}}
+use Rattle.deck_lines.specs.declared.{command.Command.{Command}, turn.Turn.{Turn}}
 use Rattle.deck_lines.specs.declared.command.Command.TheVariants as command
 use Rattle.mon_catalogue.specs.declared.mode.Mode.{Mode}
-use Rattle.deck_syntax.specs.declared.job.OpenJob.{OpenJob}
-use Rattle.deck_lines.specs.declared.turn.Turn.{Turn}
-use Rattle.deck_syntax.specs.Decks.{Asked, Commands, Enters, Gives, Drains}
-use Rattle.preflight.specs.declared.tally.Tally.{Tally}
-use Rattle.preflight.specs.declared.intake.Counts.{Counts}
+use Rattle.deck_syntax.specs.{declared.job.OpenJob.{OpenJob}, Decks.{Asked, Commands, Enters, Gives, Drains}}
+use Rattle.preflight.specs.{declared.tally.Tally.{Tally}, declared.intake.Counts.{Counts}, inner.Reading.{asks_of}}
 use Rattle.preflight.specs.Tallies.{jobs_of, creates, statements_of, work_of, more_work, tally_of}
+use Rattle.preflight.specs.inner.Counts.{IsBelow, Counted, one_line, one_creation, one_job}
 use Rattle.deck_reader.specs.declared.stream_reader.Event.{Event}
 use Rattle.deck_reader.specs.declared.stream_reader.Event.TheVariants as event
-use Rattle.preflight.specs.inner.Reading.{asks_of}
-use Rattle.preflight.specs.inner.Counts.{IsBelow, Counted, one_line, one_creation, one_job}
 
 jobs_append : (xs ys : List Asked) → jobs_of (xs ++ ys) ≡ jobs_of xs ++ jobs_of ys
 jobs_append [] ys = refl

@@ -1,13 +1,9 @@
 -- What is asked before a verdict, and why a line is not refused.
 use Rattle.std.proofs.Common.{◌≡◌, ℕ, Bool, true, false, if◌then◌else◌, List, [], ◌∷◌, ◌++◌, Option, Some, None, refl, ap, bytes_eq}
-use Rattle.std.specs.Prelude.{option_map}
-use Rattle.std.specs.Option.{option_or}
-use Rattle.std.proofs.lemmas.Slice.Eq.{bytes_eq-Decides}
+use Rattle.std.{specs.Prelude.{option_map}, specs.Option.{option_or}, proofs.lemmas.Slice.Eq.{bytes_eq-Decides}}
 use Rattle.deck_lines.specs.declared.deck_error.DeckError.{DeckError}
 use Rattle.deck_syntax.specs.Decks.{Asked}
-use Rattle.preflight.specs.declared.why.Why.{Why}
-use Rattle.preflight.specs.declared.why.Why.TheVariants.{Line, Foreign}
-use Rattle.preflight.specs.Examined.{Verdict, Admits, Refuses}
+use Rattle.preflight.specs.{declared.why.Why.{Why}, declared.why.Why.TheVariants.{Line, Foreign}, Examined.{Verdict, Admits, Refuses}}
 use Rattle.preflight.specs.inner.Reading.{and_then, all_then, foreign}
 
 pub both_then : (xs ys : List Asked) (v : Verdict) → all_then xs (all_then ys v) ≡ all_then (xs ++ ys) v

@@ -1,26 +1,16 @@
 -- A round's deck, written with LF behind each line, is read as the same lines.
 use Rattle.std.proofs.Common.{◌≡◌, ℕ, Bool, true, false, ◌||◌, List, [], ◌∷◌, ◌++◌, refl, sym, subst, ◌==◌}
-use Rattle.std.specs.Prelude.{codes}
-use Rattle.std.specs.List.{list_all, AllByRecursion}
-use Rattle.std.specs.Str.Lines.{lines}
-use Rattle.mon_text.specs.Characters.{is_printable}
-use Rattle.mon_text.specs.Lines.{IsLine}
-use Rattle.mon_text.proofs.WrittenLines.{lines_written}
+use Rattle.std.specs.{Prelude.{codes}, List.{list_all, AllByRecursion}, Str.Lines.{lines}}
+use Rattle.mon_text.{specs.Characters.{is_printable}, specs.Lines.{IsLine}, proofs.WrittenLines.{lines_written}}
 use Rattle.acl_text.specs.declared.text.AclText.TheVariants.{Short, Long}
 use Rattle.mon_access.specs.declared.account.Account.{Account}
-use Rattle.mon_catalogue.specs.Sets.{Sets}
-use Rattle.mon_catalogue.specs.Stored.{IsStored, ArePrintable}
-use Rattle.mon_catalogue.specs.Text.{text_of, catalogue_lines}
-use Rattle.mon_catalogue.proofs.Blanks.{both}
-use Rattle.mon_catalogue.proofs.Printable.{catalogue_lines_show}
-use Rattle.deck_syntax.specs.declared.job_deck.UnitCard.{UnitCard}
+use Rattle.mon_catalogue.specs.{Sets.{Sets}, Stored.{IsStored, ArePrintable}, Text.{text_of, catalogue_lines}}
+use Rattle.mon_catalogue.proofs.{Blanks.{both}, Printable.{catalogue_lines_show}}
+use Rattle.deck_syntax.specs.{declared.job_deck.UnitCard.{UnitCard}, Decks.{Asked, Commands, Enters, Gives, Drains}, Requests.{is_list_character}}
+use Rattle.deck_syntax.specs.{Spelling.{AreBlank, SpellsAccounts, IsListLine, SpellsCommand, SpellsAsked, SpellsStream}, JobSpelling.{SpellsUnits, SpellsTexts}}
+use Rattle.deck_syntax.proofs.Spelled.{both_hold, blank_is_line}
 use Rattle.deck_lines.specs.declared.command.Command.{Command}
 use Rattle.deck_lines.specs.declared.command.Command.TheVariants as command
-use Rattle.deck_syntax.specs.Decks.{Asked, Commands, Enters, Gives, Drains}
-use Rattle.deck_syntax.specs.Requests.{is_list_character}
-use Rattle.deck_syntax.specs.Spelling.{AreBlank, SpellsAccounts, IsListLine, SpellsCommand, SpellsAsked, SpellsStream}
-use Rattle.deck_syntax.specs.JobSpelling.{SpellsUnits, SpellsTexts}
-use Rattle.deck_syntax.proofs.Spelled.{both_hold, blank_is_line}
 use Rattle.preflight.specs.Rounds.{Handed, AreHanded, stream_lines, round_lines}
 
 -- ---- lines without line ends in them

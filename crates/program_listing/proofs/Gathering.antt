@@ -1,8 +1,7 @@
 -- What a statement more adds.
 use Rattle.std.proofs.Common.{◌≡◌, ℕ, ◌+◌, List, ◌∷◌, ◌++◌, drop, sym, ap, ◌∙◌, append_assoc}
 use Rattle.sno_cards.specs.Texts.{Placed}
-use Rattle.sno_syntax.specs.Labels.{LabelList}
-use Rattle.sno_syntax.specs.Refusals.{label_of, with_label, labels_from, statement_refusal}
+use Rattle.sno_syntax.specs.{Labels.{LabelList}, Refusals.{label_of, with_label, labels_from, statement_refusal}}
 use Rattle.load_refusal.specs.declared.load_error.LoadError.{LoadError}
 use Rattle.program_listing.specs.Refused.{syntax_listed, statements_refused}
 

@@ -1,15 +1,9 @@
 -- A run of operators is written as its tree.
 use Rattle.std.proofs.Common.{◌≡◌, ℕ, zero, suc, ◌<◌, length, drop, arith, OnOk, Result, Ok, Err, List, [], ◌∷◌, ◌++◌, refl, sym, ap, ◌∙◌, append_assoc}
-use Rattle.std.specs.Prelude.{codes}
-use Rattle.std.proofs.lemmas.List.{append-nil}
-use Rattle.sno_expression.specs.declared.tree.Pending.{Pending}
-use Rattle.sno_expression.specs.declared.tree.Operands.{Operands, out-Operands}
-use Rattle.sno_expression.specs.Expressions.{Expression}
-use Rattle.sno_expression.specs.Abstraction.{expression_of}
-use Rattle.sno_expression.specs.inner.Runs.{right_of, spread_all}
-use Rattle.sno_expression.proofs.Runs.{right_is}
-use Rattle.programs.specs.inner.Trees.{expression_text}
-use Rattle.programs.specs.inner.Runs.{left_text, lefts_text, ends_text}
+use Rattle.std.{specs.Prelude.{codes}, proofs.lemmas.List.{append-nil}}
+use Rattle.sno_expression.specs.{declared.tree.Pending.{Pending}, declared.tree.Operands.{Operands, out-Operands}, Expressions.{Expression}}
+use Rattle.sno_expression.{specs.Abstraction.{expression_of}, specs.inner.Runs.{right_of, spread_all}, proofs.Runs.{right_is}}
+use Rattle.programs.specs.inner.{Trees.{expression_text}, Runs.{left_text, lefts_text, ends_text}}
 
 shuffled : (a b c d x : List ℕ) → (a ++ (b ++ (c ++ d))) ++ x ≡ (a ++ b) ++ (c ++ (d ++ x))
 shuffled a b c d x =

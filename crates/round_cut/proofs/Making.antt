@@ -1,20 +1,14 @@
 -- How many data sets a round's texts may make, as their tallies tell.
 use Rattle.std.proofs.Common.{◌≡◌, ℕ, suc, ◌+◌, ◌≤◌, Bool, true, false, cond, List, [], ◌∷◌, ◌++◌, length, refl, sym, ap, ap₂, ◌∙◌, arith}
-use Rattle.std.specs.List.{count_by, sum_by}
-use Rattle.std.proofs.lemmas.List.Sums.{sum_by-cons, sum_by-append}
-use Rattle.deck_lines.specs.declared.command.Command.{Command}
-use Rattle.deck_lines.specs.declared.command.Command.TheVariants.{Create, Delete, SetAcl, ShowAcl, List as Listing, Catalog}
+use Rattle.std.{specs.List.{count_by, sum_by}, proofs.lemmas.List.Sums.{sum_by-cons, sum_by-append}}
+use Rattle.deck_lines.specs.declared.command.Command.{Command, TheVariants.{Create, Delete, SetAcl, ShowAcl, List as Listing, Catalog}}
 use Rattle.deck_syntax.specs.Decks.{Asked, Commands, Enters, Gives, Drains}
 use Rattle.deck_driver.specs.RunStates.{events_of}
 use Rattle.deck_run.specs.Laws.{jobs_in}
-use Rattle.preflight.specs.declared.submission.Submission.{Submission}
-use Rattle.preflight.specs.declared.tally.Tally.{Tally}
-use Rattle.preflight.specs.Rounds.{Handed}
-use Rattle.preflight.specs.Submissions.{IsAdmitted}
+use Rattle.preflight.specs.{declared.submission.Submission.{Submission}, declared.tally.Tally.{Tally}, Rounds.{Handed}, Submissions.{IsAdmitted}}
 use Rattle.preflight.specs.Tallies.{creates, tally_of}
 use Rattle.parts_laws.specs.Runs.{made_by}
-use Rattle.parts.specs.Told.{Told}
-use Rattle.parts.specs.Splits.{goes}
+use Rattle.parts.specs.{Told.{Told}, Splits.{goes}}
 use Rattle.frame_laws.specs.Naming.{command_makes, makes}
 use Rattle.frame_audit.specs.Laws.{TextsRunInParts}
 use Rattle.rounds.specs.InParts.{numbered}

@@ -1,17 +1,11 @@
 -- Texts as they are read of what was kept, one after the other.
 use Rattle.std.proofs.Common.{◌≡◌, ℕ, suc, ◌+◌, ◌<◌, List, [], ◌∷◌, ◌++◌, length, take, get_or, refl, sym, ap, ◌∙◌, subst, arith}
-use Rattle.std.proofs.lemmas.List.{take_more, length-take-le}
-use Rattle.preflight.specs.declared.submission.Submission.{Submission}
-use Rattle.preflight.specs.Rounds.{Handed}
-use Rattle.preflight.specs.Submissions.{IsAdmitted}
+use Rattle.std.{proofs.lemmas.List.{take_more, length-take-le}, specs.Prelude.{map}}
+use Rattle.preflight.specs.{declared.submission.Submission.{Submission}, Rounds.{Handed}, Submissions.{IsAdmitted}}
 use Rattle.parts_laws.specs.Runs.{GoWithNames}
-use Rattle.parts.specs.Told.{Told}
-use Rattle.parts.specs.Splits.{speaks, goes}
+use Rattle.parts.specs.{Told.{Told}, Splits.{speaks, goes}, declared.text.Text.{Text}}
 use Rattle.parts.specs.Splits as splits
-use Rattle.parts.specs.declared.text.Text.{Text}
-use Rattle.std.specs.Prelude.{map}
-use Rattle.round_parts.specs.Names.{AreRead}
-use Rattle.round_parts.proofs.Spoken.{go_read}
+use Rattle.round_parts.{specs.Names.{AreRead}, proofs.Spoken.{go_read}}
 use Rattle.round_cut.specs.Cuts.{AreKept, SpeaksOfItsOwn, IsReadFrom, AddsOne, AreReadFrom}
 
 -- one more

@@ -1,42 +1,24 @@
 -- The audit of a round is that of its texts, one behind the other.
 use Rattle.std.proofs.Common.{◌≡◌, ℕ, zero, suc, ◌+◌, Bool, true, false, List, [], ◌∷◌, ◌++◌, length, Option, None, refl, sym, ap, ap₂, ◌∙◌, arith, append_assoc, append-nil, replicate, flat_map}
-use Rattle.std.specs.Prelude.{codes, is_none, if◌then◌else◌, drop, Ok}
-use Rattle.std.specs.List.{list_all}
-use Rattle.std.specs.Str.Lines.{lines}
+use Rattle.std.specs.{Prelude.{codes, is_none, if◌then◌else◌, drop, Ok}, List.{list_all}, Str.Lines.{lines}}
 use Rattle.mon_access.specs.declared.account.Account.{Account}
-use Rattle.mon_catalogue.specs.Sets.{Sets}
-use Rattle.mon_catalogue.specs.Text.{text_of}
-use Rattle.scheduler.specs.States.{SlotState, SchedulerState}
-use Rattle.scheduler.specs.Marks.{Marks, mark_of, turn_as, is_done, rounds, turns_left}
+use Rattle.mon_catalogue.specs.{Sets.{Sets}, Text.{text_of}}
+use Rattle.scheduler.specs.{States.{SlotState, SchedulerState}, Marks.{Marks, mark_of, turn_as, is_done, rounds, turns_left}}
 use Rattle.scheduler.specs.AuditLines.{turn_lines, lines_until}
 use Rattle.audit.specs.RunEnds.{stopped_line}
-use Rattle.mon_monitor.specs.SystemStates.{SystemState, first_system}
-use Rattle.mon_monitor.specs.Events.{Event, Drain}
-use Rattle.mon_monitor.specs.Played.{happened, played}
-use Rattle.mon_monitor.specs.History.{history, event_entries}
-use Rattle.mon_monitor.specs.Audit.{audit_of, event_lines}
-use Rattle.mon_monitor.specs.Laws.{CardByCard, DrainEmpties, AccountsStay, SlotsStay}
+use Rattle.mon_monitor.specs.{SystemStates.{SystemState, first_system}, Events.{Event, Drain}, Played.{happened, played}, History.{history, event_entries}}
+use Rattle.mon_monitor.specs.{Audit.{audit_of, event_lines}, Laws.{CardByCard, DrainEmpties, AccountsStay, SlotsStay}}
 use Rattle.mon_monitor.proofs.Auditing.{audit_append, until_told}
-use Rattle.deck_syntax.specs.Decks.{Deck, Asked, Drains}
-use Rattle.deck_syntax.specs.Sections.{deck_of}
-use Rattle.deck_driver.specs.declared.options.Options.{Options}
-use Rattle.deck_driver.specs.RunStates.{events_of, opening}
-use Rattle.deck_driver.specs.Audits.{told_to}
-use Rattle.deck_run.specs.Audited.{end_told}
-use Rattle.deck_run.specs.Runs.{counts_of}
-use Rattle.deck_run.specs.Laws.{jobs_in}
-use Rattle.deck_run.proofs.Ordered.{events_both}
-use Rattle.preflight.specs.declared.submission.Submission.{Submission}
-use Rattle.preflight.specs.Rounds.{Handed, AreHanded, stream_lines, stream_asks, round_lines, round_deck}
+use Rattle.deck_syntax.specs.{Decks.{Deck, Asked, Drains}, Sections.{deck_of}}
+use Rattle.deck_driver.specs.{declared.options.Options.{Options}, RunStates.{events_of, opening}, Audits.{told_to}}
+use Rattle.deck_run.{specs.Audited.{end_told}, specs.Runs.{counts_of}, specs.Laws.{jobs_in}, proofs.Ordered.{events_both}}
+use Rattle.preflight.specs.{declared.submission.Submission.{Submission}, Rounds.{Handed, AreHanded, stream_lines, stream_asks, round_lines, round_deck}}
 use Rattle.preflight.specs.Laws.{NeverRefused}
 use Rattle.parts_laws.specs.Threads.{threaded}
 use Rattle.frame_audit.specs.Texts.{audited_texts}
-use Rattle.rounds.specs.Delivery.{text_events, text_played}
-use Rattle.rounds.specs.Compositions.{with_fence, front_text, round_text, AreAdmitted, IsGoodRound}
-use Rattle.rounds.specs.InParts.{numbered}
+use Rattle.rounds.specs.{Delivery.{text_events, text_played}, Compositions.{with_fence, front_text, round_text, AreAdmitted, IsGoodRound}, InParts.{numbered}}
 use Rattle.rounds.specs.Serving.{round_audit}
-use Rattle.rounds.proofs.Heads.{head_lines, front_lines, head_is, stop_behind, text_both}
-use Rattle.rounds.proofs.Delivering.{no_jobs_more, each_alone}
+use Rattle.rounds.proofs.{Heads.{head_lines, front_lines, head_is, stop_behind, text_both}, Delivering.{no_jobs_more, each_alone}}
 
 -- THE DECK OF A ROUND
 

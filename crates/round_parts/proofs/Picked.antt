@@ -1,9 +1,7 @@
 -- What is picked of texts made from entries is made from what is picked of these.
 use Rattle.std.proofs.Common.{◌≡◌, ℕ, Bool, true, false, cond, List, [], ◌∷◌, Option, Some, None, refl, sym, ap, ◌∙◌, map, option_map, flat_map}
-use Rattle.std.specs.Map.{lookup}
-use Rattle.std.proofs.lemmas.List.Folds.{flat_map-map}
-use Rattle.parts_laws.specs.Picking.{Decides, and_if, picked}
-use Rattle.parts_laws.proofs.Running.{picked_alike}
+use Rattle.std.{specs.Map.{lookup}, proofs.lemmas.List.Folds.{flat_map-map}}
+use Rattle.parts_laws.{specs.Picking.{Decides, and_if, picked}, proofs.Running.{picked_alike}}
 
 module _ {K V : Type 0} (same : K → K → Bool) (decides : Decides same) (text : K → V → List ℕ) where
   -- entries, with what is written of each

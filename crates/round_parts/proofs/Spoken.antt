@@ -1,21 +1,15 @@
 -- A text speaks of the names that are read from its cards.
 use Rattle.std.proofs.Common.{◌≡◌, ℕ, suc, ◌+◌, nat_eq, Bool, true, false, List, [], ◌∷◌, ◌++◌, refl, sym, ap, ◌∙◌, map, append-nil}
-use Rattle.std.specs.Prelude.{◌||◌}
-use Rattle.std.specs.List.{list_any}
-use Rattle.std.specs.Cmp.Lexicographic.{pointwise}
-use Rattle.std.proofs.lemmas.List.Folds.{list_any-append}
-use Rattle.std.proofs.lemmas.List.Concat.{flat_map-append}
-use Rattle.deck_lines.specs.declared.command.Command.{Command}
-use Rattle.deck_lines.specs.declared.command.Command.TheVariants.{Create, Delete, SetAcl, ShowAcl, List as Listing, Catalog}
-use Rattle.deck_syntax.specs.declared.job_deck.UnitCard.{UnitCard}
-use Rattle.deck_syntax.specs.Decks.{Asked, Commands, Enters, Gives, Drains}
+use Rattle.std.specs.{Prelude.{◌||◌}, List.{list_any}, Cmp.Lexicographic.{pointwise}}
+use Rattle.std.proofs.lemmas.List.{Folds.{list_any-append}, Concat.{flat_map-append}}
+use Rattle.deck_lines.specs.declared.command.Command.{Command, TheVariants.{Create, Delete, SetAcl, ShowAcl, List as Listing, Catalog}}
+use Rattle.deck_syntax.specs.{declared.job_deck.UnitCard.{UnitCard}, Decks.{Asked, Commands, Enters, Gives, Drains}}
 use Rattle.deck_driver.specs.RunStates.{events_of}
 use Rattle.deck_run.specs.Laws.{jobs_in}
 use Rattle.preflight.specs.Rounds.{Handed}
 use Rattle.parts_laws.specs.Runs.{Split, GoWithNames}
-use Rattle.parts.specs.Splits.{speaks}
+use Rattle.parts.specs.{Splits.{speaks}, declared.text.Text.{Text}}
 use Rattle.parts.specs.Splits as splits
-use Rattle.parts.specs.declared.text.Text.{Text}
 use Rattle.text_names.specs.Names as read
 use Rattle.text_names.specs.Names.{names_of, is_of_all, names_in, asks_all, Speaks}
 use Rattle.frame_laws.specs.Naming.{command_names, tied_by_cards, speak_of}

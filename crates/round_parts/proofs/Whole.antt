@@ -1,39 +1,21 @@
 -- A round in parts: what the parts wrote, joined, is what the round writes.
 use Rattle.std.proofs.Common.{◌≡◌, ℕ, suc, ◌+◌, nat_eq, false, List, [], ◌∷◌, ◌++◌, refl, sym, ap, ap₂, ◌∙◌, flat_map}
-use Rattle.std.specs.Prelude.{◌==◌, codes}
-use Rattle.std.specs.List.{AllByRecursion, IsDistinct, concat}
-use Rattle.std.specs.Cmp.Lexicographic.{pointwise, bytes_decides}
+use Rattle.std.specs.{Prelude.{◌==◌, codes}, List.{AllByRecursion, IsDistinct, concat}, Cmp.Lexicographic.{pointwise, bytes_decides}}
+use Rattle.std.proofs.lemmas.{Bool.Decides.{nat_tests}, Map.Keys.{IsDistinct-cons, IsDistinct-from_apart}, List.Concat.{flat_map-append}}
 use Rattle.std.proofs.Common.{◌<◌, arith}
-use Rattle.std.proofs.lemmas.Bool.Decides.{nat_tests}
-use Rattle.std.proofs.lemmas.Map.Keys.{IsDistinct-cons, IsDistinct-from_apart}
-use Rattle.std.proofs.lemmas.List.Concat.{flat_map-append}
 use Rattle.mon_access.specs.declared.account.Account.{Account}
-use Rattle.mon_catalogue.specs.Sets.{Sets}
-use Rattle.mon_catalogue.specs.Text.{set_lines, catalogue_lines, catalogue_text}
+use Rattle.mon_catalogue.specs.{Sets.{Sets}, Text.{set_lines, catalogue_lines, catalogue_text}}
 use Rattle.scheduler.specs.Marks.{Marks}
 use Rattle.audit.specs.RunEnds.{stopped_line}
-use Rattle.mon_monitor.specs.Printouts.{printouts_text}
-use Rattle.mon_monitor.specs.Laws.{CardByCard, DrainEmpties, AccountsStay, SlotsStay}
+use Rattle.mon_monitor.specs.{Printouts.{printouts_text}, Laws.{CardByCard, DrainEmpties, AccountsStay, SlotsStay}}
 use Rattle.deck_run.specs.Laws.{jobs_in}
-use Rattle.preflight.specs.Rounds.{Handed}
-use Rattle.preflight.specs.Laws.{NeverRefused}
-use Rattle.parts_laws.specs.Picking.{Decides}
-use Rattle.parts_laws.specs.Runs.{numbers}
-use Rattle.parts_laws.specs.Threads.{threaded}
-use Rattle.parts_laws.proofs.Picking.{itself}
-use Rattle.parts_laws.proofs.Running.{equal}
-use Rattle.parts.specs.Splits.{goes}
-use Rattle.parts.specs.Joining.{printed_in, left_in}
-use Rattle.frame_audit.specs.Texts.{Telling, audited_texts}
-use Rattle.frame_audit.specs.Laws.{TextsRunInParts}
-use Rattle.rounds.specs.Delivery.{text_played, delivered}
-use Rattle.rounds.specs.InParts.{numbered}
-use Rattle.rounds.specs.Laws.{EachItsPart}
-use Rattle.round_parts.specs.Outputs.{part, set_text}
-use Rattle.round_parts.specs.Laws.{SplitsAreLawful, JoinedIsOutput, places, names_behind}
-use Rattle.round_parts.proofs.Spoken.{go_read}
-use Rattle.round_parts.proofs.Picked.{picked_texts}
-use Rattle.round_parts.proofs.Audited.{round_told}
+use Rattle.preflight.specs.{Rounds.{Handed}, Laws.{NeverRefused}}
+use Rattle.parts_laws.{specs.Picking.{Decides}, specs.Runs.{numbers}, specs.Threads.{threaded}, proofs.Picking.{itself}, proofs.Running.{equal}}
+use Rattle.parts.specs.{Splits.{goes}, Joining.{printed_in, left_in}}
+use Rattle.frame_audit.specs.{Texts.{Telling, audited_texts}, Laws.{TextsRunInParts}}
+use Rattle.rounds.specs.{Delivery.{text_played, delivered}, InParts.{numbered}, Laws.{EachItsPart}}
+use Rattle.round_parts.specs.{Outputs.{part, set_text}, Laws.{SplitsAreLawful, JoinedIsOutput, places, names_behind}}
+use Rattle.round_parts.proofs.{Spoken.{go_read}, Picked.{picked_texts}, Audited.{round_told}}
 
 -- THE PLACES OF TEXTS
 

@@ -1,26 +1,15 @@
 -- The output of a round, cut where the printouts of its texts end.
 use Rattle.std.proofs.Common.{◌≡◌, ℕ, ◌+◌, ◌-◌, false, List, [], ◌∷◌, ◌++◌, length, take, drop, flat_map, refl, sym, ap, ap₂, ◌∙◌, arith, append_assoc, append-nil, length-append, take_at, drop_at}
-use Rattle.std.specs.Prelude.{codes}
-use Rattle.std.specs.List.{concat}
-use Rattle.std.specs.Str.Lines.{lines}
+use Rattle.std.specs.{Prelude.{codes}, List.{concat}, Str.Lines.{lines}}
 use Rattle.mon_access.specs.declared.account.Account.{Account}
-use Rattle.mon_catalogue.specs.Sets.{Sets}
-use Rattle.mon_catalogue.specs.Text.{text_of}
+use Rattle.mon_catalogue.specs.{Sets.{Sets}, Text.{text_of}}
 use Rattle.scheduler.specs.Marks.{Marks}
-use Rattle.mon_monitor.specs.Printouts.{printouts_text}
-use Rattle.mon_monitor.specs.Laws.{CardByCard, DrainEmpties, AccountsStay, SlotsStay}
-use Rattle.deck_syntax.specs.Decks.{Stopped}
-use Rattle.deck_syntax.specs.Sections.{deck_of}
-use Rattle.deck_driver.specs.declared.options.Options.{Options}
-use Rattle.deck_driver.specs.RunStates.{sets_after}
-use Rattle.deck_driver.specs.Printouts.{closing, output_of}
+use Rattle.mon_monitor.specs.{Printouts.{printouts_text}, Laws.{CardByCard, DrainEmpties, AccountsStay, SlotsStay}}
+use Rattle.deck_syntax.specs.{Decks.{Stopped}, Sections.{deck_of}}
+use Rattle.deck_driver.specs.{declared.options.Options.{Options}, RunStates.{sets_after}, Printouts.{closing, output_of}}
 use Rattle.deck_run.specs.Runs.{run_state_of}
-use Rattle.preflight.specs.declared.submission.Submission.{Submission}
-use Rattle.preflight.specs.Rounds.{Handed, AreHanded, round_lines, round_deck}
-use Rattle.preflight.specs.Laws.{NeverRefused}
-use Rattle.rounds.specs.Delivery.{delivered}
-use Rattle.rounds.specs.Compositions.{with_fence, round_text, AreAdmitted, IsGoodRound, ends_of, cut_at}
-use Rattle.rounds.specs.Laws.{EachItsPart}
+use Rattle.preflight.specs.{declared.submission.Submission.{Submission}, Rounds.{Handed, AreHanded, round_lines, round_deck}, Laws.{NeverRefused}}
+use Rattle.rounds.specs.{Delivery.{delivered}, Compositions.{with_fence, round_text, AreAdmitted, IsGoodRound, ends_of, cut_at}, Laws.{EachItsPart}}
 use Rattle.rounds.proofs.Heads.{head_lines, front_lines, head_is, stop_behind, text_behind, text_both, cut_deck, front_reads}
 use Rattle.rounds.proofs.Reaching.{Place, Reached, served_at, next, start, handed_both, reached_none, reached_more, cut_output, whole_output}
 

@@ -1,9 +1,7 @@
 -- What is shorter than a plan says.
 use Rattle.std.proofs.Common.{◌≡◌, ◌≤◌, ◌<◌, ◌+◌, ◌-◌, ◌^◌, ◌⊎◌, ap, sym, subst, ℕ, List, take, inl, inr, Result, Ok, Err, IfErr, OnErr}
 use Rattle.std.specs.List.{sum_by}
-use Rattle.std.proofs.lemmas.List.{take-take}
-use Rattle.std.proofs.lemmas.List.Sums.{sum_by-take-le}
-use Rattle.std.proofs.Math.Nat.{min-le_left, min-le_right, le-min}
+use Rattle.std.proofs.{lemmas.List.{take-take}, lemmas.List.Sums.{sum_by-take-le}, Math.Nat.{min-le_left, min-le_right, le-min}}
 use native.Mathlib.Omega.{arith}
 use Rattle.preflight.specs.Allowances.{told64}
 

@@ -3,23 +3,14 @@ use Rattle.std.proofs.Common.{◌≡◌, ℕ, zero, suc, ◌+◌, List, [], ◌�
 use Rattle.std.specs.List.{concat}
 use Rattle.mon_access.specs.declared.account.Account.{Account}
 use Rattle.mon_catalogue.specs.Sets.{Sets}
-use Rattle.scheduler.specs.States.{SlotState}
-use Rattle.scheduler.specs.Marks.{Marks}
-use Rattle.mon_monitor.specs.SystemStates.{SystemState, first_system}
-use Rattle.mon_monitor.specs.Events.{Event, Drain}
-use Rattle.mon_monitor.specs.Printouts.{printouts_text}
-use Rattle.mon_monitor.specs.Played.{Played, then_played, played}
+use Rattle.scheduler.specs.{States.{SlotState}, Marks.{Marks}}
+use Rattle.mon_monitor.specs.{SystemStates.{SystemState, first_system}, Events.{Event, Drain}, Printouts.{printouts_text}, Played.{Played, then_played, played}}
 use Rattle.mon_monitor.specs.Laws.{CardByCard, DrainEmpties, AccountsStay, SlotsStay}
 use Rattle.deck_syntax.specs.Decks.{Deck, Asked, Enters, Drains, Stopped}
-use Rattle.deck_driver.specs.RunStates.{events_of, opening}
-use Rattle.deck_driver.specs.Printouts.{closing, output_of_run_state}
-use Rattle.deck_run.specs.Laws.{jobs_in, rest_of_output}
-use Rattle.deck_run.proofs.Ordered.{events_both, in_two, output_with}
-use Rattle.preflight.specs.Rounds.{Handed, stream_asks}
-use Rattle.preflight.specs.Laws.{NeverRefused}
-use Rattle.rounds.specs.Delivery.{text_events, text_played, delivered}
-use Rattle.rounds.specs.Laws.{EachAlone, Delivers}
-use Rattle.rounds.proofs.Empty.{nothing_left, drained}
+use Rattle.deck_driver.specs.{RunStates.{events_of, opening}, Printouts.{closing, output_of_run_state}}
+use Rattle.deck_run.{specs.Laws.{jobs_in, rest_of_output}, proofs.Ordered.{events_both, in_two, output_with}}
+use Rattle.preflight.specs.{Rounds.{Handed, stream_asks}, Laws.{NeverRefused}}
+use Rattle.rounds.{specs.Delivery.{text_events, text_played, delivered}, specs.Laws.{EachAlone, Delivers}, proofs.Empty.{nothing_left, drained}}
 
 as_many : (slots : ℕ) → length (replicate slots (let none : Option SlotState = None in none)) ≡ slots
 as_many zero = refl

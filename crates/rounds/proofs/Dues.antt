@@ -1,19 +1,13 @@
 -- What a round owes: replies to those whose texts do not run, the output to the others.
 use Rattle.std.proofs.Common.{◌≡◌, ◌≤◌, ℕ, ◌+◌, ◌-◌, List, [], ◌∷◌, ◌++◌, length, map, take, drop, flat_map, refl, sym, ap, ap₂, ◌∙◌, arith, append_assoc, append-nil, take_at, drop_at}
-use Rattle.std.specs.Prelude.{Some}
-use Rattle.std.specs.List.{AllByRecursion}
-use Rattle.site_folder.specs.Files.{Given, put_of, removal_of as no_file}
+use Rattle.std.specs.{Prelude.{Some}, List.{AllByRecursion}}
+use Rattle.site_folder.specs.{Files.{Given, put_of, removal_of as no_file}, Rounds.{Owed}, Laws.{OwesEachItsOwn}}
 use Rattle.site_folder.specs.Parts.{Act, Puts, Removes, total, count_of, put_by, puts_of, removal_by, removals_of}
-use Rattle.site_folder.specs.Rounds.{Owed}
-use Rattle.site_folder.specs.Laws.{OwesEachItsOwn}
 use Rattle.site_plan.specs.declared.judging.Refused as refused
-use Rattle.site_plan.specs.declared.plan.Entry.{Entry}
-use Rattle.site_plan.specs.declared.plan.Verdict.{Verdict}
+use Rattle.site_plan.specs.declared.{plan.Entry.{Entry}, plan.Verdict.{Verdict}, taken.Taken.{Taken}}
 use Rattle.site_plan.specs.declared.plan.Verdict.TheVariants as verdict
-use Rattle.site_plan.specs.declared.taken.Taken.{Taken}
-use Rattle.rounds.specs.Handing.{answer_name, taken_name, replied, reply_acts, output_acts, removal_of}
+use Rattle.rounds.{specs.Handing.{answer_name, taken_name, replied, reply_acts, output_acts, removal_of}, proofs.Pieces.{each_its_own}}
 use Rattle.rounds.specs.Laws.{AreAscending, printed_to, EachItsDue, EachItsReply}
-use Rattle.rounds.proofs.Pieces.{each_its_own}
 
 -- ---- removals put nothing
 

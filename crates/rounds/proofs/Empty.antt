@@ -1,15 +1,10 @@
 -- A system whose slots are empty is a first one.
 use Rattle.std.proofs.Common.{◌≡◌, ℕ, zero, suc, true, List, [], ◌∷◌, ◌++◌, length, Option, None, refl, ap, ap₂, ◌∙◌, replicate}
-use Rattle.std.specs.List.{list_all}
-use Rattle.std.specs.Prelude.{is_none}
+use Rattle.std.specs.{List.{list_all}, Prelude.{is_none}}
 use Rattle.mon_access.specs.declared.account.Account.{Account}
 use Rattle.mon_catalogue.specs.Sets.{Sets}
-use Rattle.scheduler.specs.States.{SlotState, scheduler, job_in, seat_at}
-use Rattle.scheduler.specs.Marks.{Marks, Past, is_done, rounds, turns_left}
-use Rattle.scheduler.proofs.Past.{until_stops}
-use Rattle.mon_monitor.specs.SystemStates.{SystemState, first_system}
-use Rattle.mon_monitor.specs.Events.{Event, Drain}
-use Rattle.mon_monitor.specs.Played.{Played, of_turns, happened, played}
+use Rattle.scheduler.{specs.States.{SlotState, scheduler, job_in, seat_at}, specs.Marks.{Marks, Past, is_done, rounds, turns_left}, proofs.Past.{until_stops}}
+use Rattle.mon_monitor.specs.{SystemStates.{SystemState, first_system}, Events.{Event, Drain}, Played.{Played, of_turns, happened, played}}
 use Rattle.mon_monitor.specs.Laws.{CardByCard, DrainEmpties, AccountsStay, SlotsStay}
 
 all_none : (slots : List (Option SlotState)) → ((i : ℕ) → seat_at (suc i) slots ≡ None) → slots ≡ replicate (length slots) None

@@ -1,13 +1,10 @@
 -- The account finds the same, and the sites differ.
 use Rattle.std.proofs.Common.{◌≡◌, ℕ, true, List, [], ◌∷◌, refl, ap, arith, length, codes}
-use Rattle.mon_catalogue.specs.declared.data_set.DataSet.{DataSet}
-use Rattle.mon_catalogue.specs.Sets.{Sets}
+use Rattle.mon_catalogue.specs.{declared.data_set.DataSet.{DataSet}, Sets.{Sets}}
 use Rattle.deck_lines.specs.declared.card.Card.TheVariants as card
 use Rattle.deck_lines.specs.CardLines.{IsCard}
-use Rattle.mon_monitor.specs.Example.{ann}
-use Rattle.mon_monitor.proofs.Example.{alike}
-use Rattle.rounds.specs.Isolation.{IsOwnText}
-use Rattle.rounds.specs.Example.{visit, pay, TheyFindAlike}
+use Rattle.mon_monitor.{specs.Example.{ann}, proofs.Example.{alike}}
+use Rattle.rounds.specs.{Isolation.{IsOwnText}, Example.{visit, pay, TheyFindAlike}}
 
 asks : IsCard 200 card.Catalog (codes "ANN" ∷ []) (codes "$CATALOG ANN")
 asks = record { word = codes "$CATALOG"; line_is = (omega arith, refl); words_are = refl; names_it = refl }

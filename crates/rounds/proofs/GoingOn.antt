@@ -2,17 +2,11 @@
 use Rattle.std.proofs.Common.{◌≡◌, ℕ, List, [], ◌∷◌, ◌++◌, flat_map, refl, sym, ap, ap₂, ◌∙◌, append_assoc}
 use Rattle.std.specs.Prelude.{codes}
 use Rattle.mon_access.specs.declared.account.Account.{Account}
-use Rattle.mon_catalogue.specs.Sets.{Sets}
-use Rattle.mon_catalogue.specs.Text.{text_of}
-use Rattle.deck_syntax.specs.Decks.{Stopped}
-use Rattle.deck_syntax.specs.Sections.{deck_of}
-use Rattle.deck_run.specs.Runs.{deck_ending}
-use Rattle.deck_run.proofs.Beginning.{read_back_is_stored}
-use Rattle.preflight.specs.declared.submission.Submission.{Submission}
-use Rattle.preflight.specs.Rounds.{Handed, AreHanded, stream_lines, round_lines}
-use Rattle.preflight.specs.Laws.{NeverRefused}
-use Rattle.rounds.specs.Compositions.{with_fence, head_text, front_text, round_text, AreAdmitted, IsGoodRound}
-use Rattle.rounds.specs.Laws.{GoesOn}
+use Rattle.mon_catalogue.specs.{Sets.{Sets}, Text.{text_of}}
+use Rattle.deck_syntax.specs.{Decks.{Stopped}, Sections.{deck_of}}
+use Rattle.deck_run.{specs.Runs.{deck_ending}, proofs.Beginning.{read_back_is_stored}}
+use Rattle.preflight.specs.{declared.submission.Submission.{Submission}, Rounds.{Handed, AreHanded, stream_lines, round_lines}, Laws.{NeverRefused}}
+use Rattle.rounds.specs.{Compositions.{with_fence, head_text, front_text, round_text, AreAdmitted, IsGoodRound}, Laws.{GoesOn}}
 use Rattle.rounds.proofs.Heads.{head_lines, front_lines, head_is, stop_behind, text_both}
 
 all_handed : (submissions : List Submission) (texts : List Handed) → AreAdmitted submissions texts → AreHanded texts

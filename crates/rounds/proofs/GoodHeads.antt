@@ -2,15 +2,10 @@
 use Rattle.std.proofs.Common.{◌≡◌, ℕ, List, Ok, ap, ◌∙◌}
 use Rattle.std.specs.Str.Lines.{lines}
 use Rattle.mon_access.specs.declared.account.Account.{Account}
-use Rattle.mon_catalogue.specs.Sets.{Sets}
-use Rattle.mon_catalogue.specs.Stored.{IsStored, ArePrintable}
-use Rattle.site_plan.specs.Tables.{table_of, ended_lines}
+use Rattle.mon_catalogue.specs.{Sets.{Sets}, Stored.{IsStored, ArePrintable}}
+use Rattle.site_plan.specs.{Tables.{table_of, ended_lines}, Catalogues.{catalogue_of, checksum_of}, Owning.{holdings_of}}
 use Rattle.site_plan.proofs.Tables.{gives_accounts}
-use Rattle.site_plan.specs.Catalogues.{catalogue_of, checksum_of}
-use Rattle.site_plan.specs.Owning.{holdings_of}
-use Rattle.rounds.specs.declared.beginning.Beginning.{Beginning}
-use Rattle.rounds.specs.Compositions.{head_text, IsGoodHead, IsWholeHead}
-use Rattle.rounds.specs.Beginnings.{Begins}
+use Rattle.rounds.specs.{declared.beginning.Beginning.{Beginning}, Compositions.{head_text, IsGoodHead, IsWholeHead}, Beginnings.{Begins}}
 
 pub good_head : (table whole : List ℕ) (accounts : List Account) (sets : Sets) (head : List ℕ) → table_of table ≡ Ok accounts → whole ≡ ended_lines (lines table)
     → head ≡ head_text whole sets → IsStored sets → ArePrintable sets → IsGoodHead head (lines table) accounts sets

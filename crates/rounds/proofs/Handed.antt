@@ -1,12 +1,9 @@
 -- The text of a round's parts, line by line.
 use Rattle.std.proofs.Common.{◌≡◌, ℕ, ◌-◌, ◌⊎◌, inl, inr, List, [], ◌∷◌, ◌++◌, length, map, flat_map, refl, sym, ap, ◌∙◌, append_assoc, append-nil, arith}
-use Rattle.std.specs.Prelude.{codes, Result, Ok, Err, OnOk}
-use Rattle.std.proofs.lemmas.List.Concat.{flat_map-append}
+use Rattle.std.{specs.Prelude.{codes, Result, Ok, Err, OnOk}, proofs.lemmas.List.Concat.{flat_map-append}}
 use Rattle.site_folder.specs.Parts.{Act, Puts, act_line, parts_text}
-use Rattle.site_plan.specs.declared.taken.Taken.{Taken}
-use Rattle.site_plan.specs.declared.plan.Entry.{Entry}
-use Rattle.rounds.specs.Handing.{reply_acts, output_acts, removal_of}
-use Rattle.rounds.proofs.Mapping.{flat_of_map}
+use Rattle.site_plan.specs.declared.{taken.Taken.{Taken}, plan.Entry.{Entry}}
+use Rattle.rounds.{specs.Handing.{reply_acts, output_acts, removal_of}, proofs.Mapping.{flat_of_map}}
 
 -- no text or no printout is left
 pub all_printed : (begin size : ℕ) (left : List Entry) (rest parts now all : List ℕ) → parts ++ parts_text (output_acts begin left rest size) ≡ all → (left ≡ []) ⊎ (length rest ≡ 0)

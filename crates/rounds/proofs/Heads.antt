@@ -1,28 +1,15 @@
 -- The lines of a round's deck, up to some text.
 use Rattle.std.proofs.Common.{◌≡◌, ℕ, ◌+◌, List, [], ◌∷◌, ◌++◌, refl, sym, ap, ◌∙◌, append_assoc, append-nil}
-use Rattle.std.specs.Prelude.{codes}
-use Rattle.std.specs.Str.Lines.{lines}
-use Rattle.std.proofs.lemmas.List.Concat.{flat_map-append}
-use Rattle.mon_access.specs.declared.account.Account.{Account}
-use Rattle.mon_access.specs.Accounts.{HaveDifferentNames}
-use Rattle.mon_catalogue.specs.declared.version.Version.TheVariants.{Two}
-use Rattle.mon_catalogue.specs.Sets.{Sets}
-use Rattle.mon_catalogue.specs.Stored.{IsStored, ArePrintable}
+use Rattle.std.{specs.Prelude.{codes}, specs.Str.Lines.{lines}, proofs.lemmas.List.Concat.{flat_map-append}}
+use Rattle.mon_access.specs.{declared.account.Account.{Account}, Accounts.{HaveDifferentNames}}
+use Rattle.mon_catalogue.specs.{declared.version.Version.TheVariants.{Two}, Sets.{Sets}, Stored.{IsStored, ArePrintable}, Text.{text_of, catalogue_lines}}
+use Rattle.mon_catalogue.proofs.{Back.{lines_spell}, Printable.{catalogue_lines_show}, Shorthand.{after_lines}, Whole.{text_read}}
 use Rattle.mon_catalogue.specs.Progress as progress
-use Rattle.mon_catalogue.specs.Text.{text_of, catalogue_lines}
-use Rattle.mon_catalogue.proofs.Back.{lines_spell}
-use Rattle.mon_catalogue.proofs.Printable.{catalogue_lines_show}
-use Rattle.mon_catalogue.proofs.Shorthand.{after_lines}
-use Rattle.mon_catalogue.proofs.Whole.{text_read}
 use Rattle.deck_lines.specs.declared.deck_error.DeckError.TheVariants.{Truncated}
-use Rattle.deck_syntax.specs.Decks.{Deck, Cards, Asked, Refused}
-use Rattle.deck_syntax.specs.Sections.{Closed, stream_section, deck_of}
-use Rattle.deck_syntax.specs.Spelling.{SpellsAccounts}
-use Rattle.deck_syntax.proofs.Complete.{table_taken, text_taken, due}
-use Rattle.deck_syntax.proofs.ComingBack.{lines_fit}
+use Rattle.deck_syntax.specs.{Decks.{Deck, Cards, Asked, Refused}, Sections.{Closed, stream_section, deck_of}, Spelling.{SpellsAccounts}}
+use Rattle.deck_syntax.proofs.{Complete.{table_taken, text_taken, due}, ComingBack.{lines_fit}}
 use Rattle.preflight.specs.Rounds.{Handed, AreHanded, stream_lines, stream_asks, round_lines}
-use Rattle.preflight.proofs.Composed.{texts_go}
-use Rattle.preflight.proofs.Written.{lines_of_writable, both_writable, all_weaker, table_writable, texts_all}
+use Rattle.preflight.proofs.{Composed.{texts_go}, Written.{lines_of_writable, both_writable, all_weaker, table_writable, texts_all}}
 use Rattle.rounds.specs.Compositions.{head_text}
 
 -- up to the card behind which the texts stand

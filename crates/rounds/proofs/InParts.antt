@@ -1,22 +1,16 @@
 -- A round in parts: its texts are those that run one after the other, by their numbers.
 use Rattle.std.proofs.Common.{◌≡◌, ℕ, zero, suc, ◌+◌, ◌<◌, nat_eq, false, List, [], ◌∷◌, map, refl, sym, ap, ◌∙◌, arith}
-use Rattle.std.specs.Prelude.{◌==◌}
-use Rattle.std.specs.List.{AllByRecursion, IsDistinct}
-use Rattle.std.proofs.lemmas.Bool.Decides.{nat_tests}
-use Rattle.std.proofs.lemmas.Map.Keys.{IsDistinct-cons, IsDistinct-from_apart}
+use Rattle.std.specs.{Prelude.{◌==◌}, List.{AllByRecursion, IsDistinct}}
+use Rattle.std.proofs.lemmas.{Bool.Decides.{nat_tests}, Map.Keys.{IsDistinct-cons, IsDistinct-from_apart}}
 use Rattle.mon_access.specs.declared.account.Account.{Account}
-use Rattle.mon_catalogue.specs.declared.data_set.DataSet.{DataSet}
-use Rattle.mon_catalogue.specs.Sets.{Sets}
+use Rattle.mon_catalogue.specs.{declared.data_set.DataSet.{DataSet}, Sets.{Sets}}
 use Rattle.scheduler.specs.Marks.{Marks}
 use Rattle.mon_monitor.specs.Printouts.{Printout, printouts_text}
 use Rattle.deck_run.specs.Laws.{jobs_in}
 use Rattle.preflight.specs.Rounds.{Handed}
-use Rattle.parts_laws.specs.Runs.{Ran, numbers}
-use Rattle.parts_laws.specs.Threads.{threaded}
-use Rattle.frame_laws.specs.Texts.{texts_of}
-use Rattle.frame_laws.specs.Laws.{TextsRunInParts}
-use Rattle.rounds.specs.Delivery.{text_played, delivered}
-use Rattle.rounds.specs.InParts.{numbered, RoundsRunInParts}
+use Rattle.parts_laws.specs.{Runs.{Ran, numbers}, Threads.{threaded}}
+use Rattle.frame_laws.specs.{Texts.{texts_of}, Laws.{TextsRunInParts}}
+use Rattle.rounds.specs.{Delivery.{text_played, delivered}, InParts.{numbered, RoundsRunInParts}}
 
 behind : (k n jobs : ℕ) (texts : List Handed) → k < n → AllByRecursion (λ l. (k == l) ≡ false) (numbers (numbered n jobs texts))
 behind k n jobs [] less = tt

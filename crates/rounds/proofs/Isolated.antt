@@ -1,15 +1,9 @@
 -- Texts of an account over data sets that look alike to it, and between them whatever others hand in.
 use Rattle.std.proofs.Common.{◌≡◌, ℕ, zero, suc, List, [], ◌∷◌, ◌++◌, Some, refl, sym, ap, ◌∙◌, subst, nat_eq}
-use Rattle.std.specs.List.{AllByRecursion, IsDistinct}
-use Rattle.std.specs.Map.{keys_of}
-use Rattle.std.specs.Cmp.Lexicographic.{pointwise}
-use Rattle.mon_access.specs.declared.account.Account.{Account}
-use Rattle.mon_access.specs.Accounts.{find_account}
+use Rattle.std.specs.{List.{AllByRecursion, IsDistinct}, Map.{keys_of}, Cmp.Lexicographic.{pointwise}}
+use Rattle.mon_access.specs.{declared.account.Account.{Account}, Accounts.{find_account}}
 use Rattle.mon_catalogue.specs.Sets.{Sets, NamesDiffer}
-use Rattle.mon_monitor.specs.SystemStates.{first_system}
-use Rattle.mon_monitor.specs.Agreeing.{LooksAlike, Both}
-use Rattle.mon_monitor.specs.Isolation.{IsOwn, Isolated}
-use Rattle.mon_monitor.specs.Printouts.{Printout, printouts_text}
+use Rattle.mon_monitor.specs.{SystemStates.{first_system}, Agreeing.{LooksAlike, Both}, Isolation.{IsOwn, Isolated}, Printouts.{Printout, printouts_text}}
 use Rattle.deck_syntax.specs.Decks.{Asked, Commands, Enters, Gives, Drains}
 use Rattle.deck_driver.specs.RunStates.{events_of}
 use Rattle.deck_run.proofs.Isolated.{no_job_at_first}

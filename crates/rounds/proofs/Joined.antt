@@ -1,7 +1,6 @@
 -- A stream that is taken apart, text by text.
 use Rattle.std.proofs.Common.{◌≡◌, ℕ, ◌≤◌, List, [], ◌++◌, take, drop, ap, ◌∙◌, append_assoc}
-use Rattle.std.specs.Prelude.{codes}
-use Rattle.std.proofs.lemmas.List.{take-append-drop}
+use Rattle.std.{specs.Prelude.{codes}, proofs.lemmas.List.{take-append-drop}}
 
 -- a head, the texts, and the end
 pub whole : (front : ℕ) (deck stream texts end : List ℕ) → stream ≡ drop front deck → texts ++ end ≡ stream → (take front deck ++ texts) ++ end ≡ deck

@@ -1,13 +1,9 @@
 -- The output, piece by piece.
 use Rattle.std.proofs.Common.{◌≡◌, ℕ, ◌+◌, ◌-◌, ◌≤◌, List, [], ◌∷◌, ◌++◌, length, map, take, drop, refl, ap, ◌∙◌, arith, take_all, drop-drop, length-drop}
-use Rattle.std.specs.Prelude.{codes}
-use Rattle.std.specs.List.{zip}
-use Rattle.rounds.specs.Compositions.{cut_at}
-use Rattle.site_folder.specs.Files.{Given, put_of}
-use Rattle.site_folder.specs.Parts.{puts_of}
+use Rattle.std.specs.{Prelude.{codes}, List.{zip}}
+use Rattle.rounds.specs.{Compositions.{cut_at}, Handing.{answer_name, output_acts}, Laws.{AreAscending, EachItsOwn}}
+use Rattle.site_folder.specs.{Files.{Given, put_of}, Parts.{puts_of}}
 use Rattle.site_plan.specs.declared.plan.Entry.{Entry}
-use Rattle.rounds.specs.Handing.{answer_name, output_acts}
-use Rattle.rounds.specs.Laws.{AreAscending, EachItsOwn}
 
 -- what stands behind the last printout
 last_piece : (begin : ℕ) (others : List Entry) (output : List ℕ) → puts_of (output_acts begin others [] (length output)) (drop begin output) ≡ put_of (codes "catalogue") (drop begin output) ∷ []

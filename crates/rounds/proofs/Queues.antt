@@ -1,9 +1,7 @@
 -- Queues of which one alone has an account's texts, and has no others.
 use Rattle.std.proofs.Common.{◌≡◌, ◌⊎◌, ℕ, zero, suc, ◌+◌, ◌<◌, ◌==◌, ◌%◌, Bool, true, false, cond, List, [], ◌∷◌, ◌++◌, length, map, take, drop, get_or, flat_map, refl, sym, ap, ap₂, ◌∙◌, subst, inl, inr, arith, append-nil, take-append-drop, eq-eqb}
 use Rattle.std.specs.List.{AllByRecursion}
-use Rattle.std.proofs.lemmas.Bool.{eqb-true}
-use Rattle.std.proofs.lemmas.List.Concat.{flat_map-append}
-use Rattle.std.proofs.lemmas.List.Elements.{filter-append}
+use Rattle.std.proofs.lemmas.{Bool.{eqb-true}, List.Concat.{flat_map-append}, List.Elements.{filter-append}}
 use Rattle.rounds.specs.Order.{rotated, texts_of, AreQueuesFrom}
 
 -- all texts of all queues

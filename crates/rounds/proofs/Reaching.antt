@@ -1,29 +1,19 @@
 -- What a round has printed behind some of its texts, and what the others then print.
 use Rattle.std.proofs.Common.{◌≡◌, ℕ, suc, ◌+◌, false, List, [], ◌∷◌, ◌++◌, refl, sym, ap, ap₂, ◌∙◌, arith, append_assoc, append-nil}
-use Rattle.std.specs.Str.Lines.{lines}
-use Rattle.std.proofs.lemmas.List.Concat.{flat_map-append}
+use Rattle.std.{specs.Str.Lines.{lines}, proofs.lemmas.List.Concat.{flat_map-append}}
 use Rattle.mon_access.specs.declared.account.Account.{Account}
 use Rattle.mon_catalogue.specs.Sets.{Sets}
 use Rattle.scheduler.specs.Marks.{Marks}
-use Rattle.mon_monitor.specs.SystemStates.{SystemState, first_system}
-use Rattle.mon_monitor.specs.Events.{Event, Drain}
-use Rattle.mon_monitor.specs.Printouts.{printout_text, printouts_text}
-use Rattle.mon_monitor.specs.Played.{Played, then_played, happened, played}
+use Rattle.mon_monitor.specs.{SystemStates.{SystemState, first_system}, Events.{Event, Drain}, Printouts.{printout_text, printouts_text}}
+use Rattle.mon_monitor.specs.{Played.{Played, then_played, happened, played}, Laws.{CardByCard, DrainEmpties, AccountsStay, SlotsStay}}
 use Rattle.mon_monitor.proofs.Parts.{and_played}
-use Rattle.mon_monitor.specs.Laws.{CardByCard, DrainEmpties, AccountsStay, SlotsStay}
 use Rattle.deck_lines.specs.declared.deck_error.DeckError.TheVariants.{Truncated}
-use Rattle.deck_syntax.specs.Decks.{Deck, Asked, Enters, Drains, Stopped, Refused}
-use Rattle.deck_syntax.specs.Sections.{deck_of}
-use Rattle.deck_driver.specs.declared.options.Options.{Options}
-use Rattle.deck_driver.specs.RunStates.{events_of, opening, sets_after}
+use Rattle.deck_syntax.specs.{Decks.{Deck, Asked, Enters, Drains, Stopped, Refused}, Sections.{deck_of}}
+use Rattle.deck_driver.specs.{declared.options.Options.{Options}, RunStates.{events_of, opening, sets_after}}
 use Rattle.deck_driver.specs.Printouts.{closing, output_of_run_state, output_of}
-use Rattle.deck_run.specs.Laws.{jobs_in}
-use Rattle.deck_run.specs.Runs.{run_state_of}
-use Rattle.deck_run.proofs.Ordered.{events_both, is_run}
+use Rattle.deck_run.{specs.Laws.{jobs_in}, specs.Runs.{run_state_of}, proofs.Ordered.{events_both, is_run}}
 use Rattle.preflight.specs.Rounds.{Handed, IsHanded, AreHanded, stream_asks, round_deck}
-use Rattle.rounds.specs.Delivery.{text_events, text_played}
-use Rattle.rounds.proofs.Delivering.{no_jobs_more, each_alone}
-use Rattle.rounds.proofs.Empty.{nothing_left}
+use Rattle.rounds.{specs.Delivery.{text_events, text_played}, proofs.Delivering.{no_jobs_more, each_alone}, proofs.Empty.{nothing_left}}
 
 -- ---- texts that are served one after the other
 

@@ -1,26 +1,18 @@
 -- A round, served piece by piece.
 use Rattle.std.proofs.Common.{◌≡◌, ℕ, ◌+◌, Bool, true, false, List, [], ◌∷◌, ◌++◌, length, flat_map, refl, sym, ap, ap₂, ◌∙◌, append_assoc, append-nil}
-use Rattle.std.specs.Str.Lines.{lines}
-use Rattle.std.proofs.lemmas.List.Concat.{flat_map-append}
+use Rattle.std.{specs.Str.Lines.{lines}, proofs.lemmas.List.Concat.{flat_map-append}}
 use Rattle.mon_catalogue.specs.Sets.{Sets}
 use Rattle.scheduler.specs.Marks.{Marks}
 use Rattle.deck_lines.specs.declared.deck_error.DeckError.{DeckError}
 use Rattle.deck_syntax.specs.Decks.{Ending, Stopped, Refused}
-use Rattle.deck_driver.specs.declared.feed.DeckFeed.{DeckFeed}
-use Rattle.deck_driver.specs.declared.options.Counts.{Counts}
-use Rattle.deck_driver.specs.declared.options.Options.{Options}
-use Rattle.deck_driver.specs.declared.section.DeckState.{DeckState}
+use Rattle.deck_driver.specs.declared.{feed.DeckFeed.{DeckFeed}, options.Counts.{Counts}, options.Options.{Options}}
+use Rattle.deck_driver.specs.{declared.section.DeckState.{DeckState}, Feeds.{Outcome, Good, Bad, outcome, concluded, sets_left, is_reading, more}}
+use Rattle.deck_driver.{specs.Abstraction.{told, audit_told, Took}, specs.Printouts.{output_of}, proofs.Beginnings.{nothing_printed}}
 use Rattle.deck_driver.specs.declared.section.DeckState.TheVariants as state
-use Rattle.deck_driver.specs.Feeds.{Outcome, Good, Bad, outcome, concluded, sets_left, is_reading, more}
-use Rattle.mon_device.specs.Putting.{Standing, Puts}
-use Rattle.mon_device.proofs.Putting.{puts_same, puts_then}
-use Rattle.deck_driver.specs.Abstraction.{told, audit_told, Took}
-use Rattle.deck_driver.specs.Printouts.{output_of}
-use Rattle.deck_driver.proofs.Beginnings.{nothing_printed}
+use Rattle.mon_device.{specs.Putting.{Standing, Puts}, proofs.Putting.{puts_same, puts_then}}
 use Rattle.deck_run.specs.Runs.{deck_ending, run_state_of, counts_of, catalogue_after}
 use Rattle.preflight.specs.declared.submission.Submission.{Submission}
-use Rattle.rounds.specs.Compositions.{with_fence, front_text, ends_of}
-use Rattle.rounds.specs.Serving.{whole, IsBad}
+use Rattle.rounds.specs.{Compositions.{with_fence, front_text, ends_of}, Serving.{whole, IsBad}}
 
 -- ---- one piece
 

@@ -1,34 +1,21 @@
 -- A round on its way: text by text, up to its end.
 use Rattle.std.proofs.Common.{◌≡◌, ℕ, ◌+◌, ◌<◌, ◌≤◌, true, false, List, [], ◌∷◌, ◌++◌, length, take, drop, get_or, flat_map, sym, ap, ap₂, ◌∙◌, subst, arith, append_assoc, append-nil, length-append, take_all, take-append-drop}
-use Rattle.std.specs.Prelude.{codes, Result, Ok, Err, IfOk}
-use Rattle.std.proofs.lemmas.List.{drop_more, take_more}
-use Rattle.std.proofs.lemmas.List.Concat.{flat_map-append}
-use Rattle.mon_device.specs.Putting.{Standing, Puts}
-use Rattle.mon_device.proofs.Putting.{puts_same, puts_then}
+use Rattle.std.{specs.Prelude.{codes, Result, Ok, Err, IfOk}, proofs.lemmas.List.{drop_more, take_more}, proofs.lemmas.List.Concat.{flat_map-append}}
+use Rattle.mon_device.{specs.Putting.{Standing, Puts}, proofs.Putting.{puts_same, puts_then}}
 use Rattle.mon_catalogue.specs.Sets.{Sets}
 use Rattle.scheduler.specs.Marks.{Marks}
 use Rattle.deck_lines.specs.declared.deck_error.DeckError.{DeckError}
 use Rattle.deck_syntax.specs.Decks.{Refused}
-use Rattle.deck_driver.specs.declared.fault.RunError.{RunError}
-use Rattle.deck_driver.specs.declared.fault.RunError.TheVariants.{DeckRefused}
-use Rattle.deck_driver.specs.declared.feed.DeckFeed.{DeckFeed}
-use Rattle.deck_driver.specs.declared.options.Counts.{Counts}
-use Rattle.deck_driver.specs.declared.options.Options.{Options}
-use Rattle.deck_driver.specs.Feeds.{Outcome, Good, Bad, EndsLine, IsReadBack, is_reading}
-use Rattle.deck_driver.specs.Audits.{audit_for}
-use Rattle.deck_driver.specs.Abstraction.{told, audit_told, Took}
-use Rattle.deck_driver.specs.Printouts.{output_of, ReadsBack}
-use Rattle.deck_run.specs.Audited.{end_told}
-use Rattle.deck_run.specs.Runs.{deck_ending, counts_of}
+use Rattle.deck_driver.specs.declared.{fault.RunError.{RunError}, fault.RunError.TheVariants.{DeckRefused}, feed.DeckFeed.{DeckFeed}}
+use Rattle.deck_driver.specs.{declared.options.Counts.{Counts}, declared.options.Options.{Options}, Audits.{audit_for}, Abstraction.{told, audit_told, Took}}
+use Rattle.deck_driver.specs.{Feeds.{Outcome, Good, Bad, EndsLine, IsReadBack, is_reading}, Printouts.{output_of, ReadsBack}}
+use Rattle.deck_run.specs.{Audited.{end_told}, Runs.{deck_ending, counts_of}}
 use Rattle.preflight.specs.declared.submission.Submission.{Submission}
-use Rattle.rounds.specs.declared.running.Round.{Round}
-use Rattle.rounds.specs.declared.running.RoundError.{RoundError}
-use Rattle.rounds.specs.declared.running.RoundError.TheVariants as round_error
-use Rattle.rounds.specs.declared.running.Running.{Running}
-use Rattle.rounds.specs.Compositions.{with_fence, front_text, round_text, ends_of, cut_at}
-use Rattle.rounds.specs.Laws.{EachItsPart}
+use Rattle.rounds.specs.declared.running.{Round.{Round}, RoundError.{RoundError}, Running.{Running}}
+use Rattle.rounds.specs.{Compositions.{with_fence, front_text, round_text, ends_of, cut_at}, Laws.{EachItsPart}}
 use Rattle.rounds.specs.Serving.{whole, Stands, IsBad, IsBadAtEnd, Finishes, IsServed, HasEnded}
 use Rattle.rounds.proofs.Served.{behind_both, nothing_more, ends_more, front_more, ends_bad, ends_good}
+use Rattle.rounds.specs.declared.running.RoundError.TheVariants as round_error
 
 -- what was told, and what then was, and the rest
 audits_both : (first second more rest : List ℕ) → more ≡ second ++ rest → first ++ more ≡ (first ++ second) ++ rest

@@ -1,22 +1,14 @@
 -- Where a round stops: what was put to the audit begins what is told of the piece that was served.
 use Rattle.std.proofs.Common.{◌≡◌, ℕ, ◌+◌, ◌<◌, true, List, [], ◌∷◌, ◌++◌, length, take, get_or, refl, sym, ap, ap₂, ◌∙◌, subst, append_assoc, append-nil}
-use Rattle.std.specs.Prelude.{codes, Some}
-use Rattle.std.specs.Str.Lines.{lines}
-use Rattle.std.proofs.lemmas.Option.{slice_get-get_or}
-use Rattle.mon_device.specs.Putting.{Standing, Puts}
-use Rattle.mon_device.proofs.Putting.{puts_nothing, puts_same, puts_then}
+use Rattle.std.{specs.Prelude.{codes, Some}, specs.Str.Lines.{lines}, proofs.lemmas.Option.{slice_get-get_or}}
+use Rattle.mon_device.{specs.Putting.{Standing, Puts}, proofs.Putting.{puts_nothing, puts_same, puts_then}}
 use Rattle.scheduler.specs.Marks.{Marks}
-use Rattle.deck_driver.specs.declared.feed.DeckFeed.{DeckFeed}
-use Rattle.deck_driver.specs.declared.options.Options.{Options}
-use Rattle.deck_driver.specs.declared.section.DeckState.{DeckState}
-use Rattle.deck_driver.specs.declared.section.DeckState.TheVariants as state
-use Rattle.deck_driver.specs.Feeds.{Begins, EndsLine, is_reading}
-use Rattle.deck_driver.specs.Audits.{audit_for, told_from}
-use Rattle.deck_driver.specs.Abstraction.{audit_told, Took, Begun}
+use Rattle.deck_driver.specs.declared.{feed.DeckFeed.{DeckFeed}, options.Options.{Options}, section.DeckState.{DeckState}}
+use Rattle.deck_driver.specs.{Feeds.{Begins, EndsLine, is_reading}, Audits.{audit_for, told_from}, Abstraction.{audit_told, Took, Begun}}
 use Rattle.deck_driver.proofs.Telling.{none_told}
+use Rattle.deck_driver.specs.declared.section.DeckState.TheVariants as state
 use Rattle.preflight.specs.declared.submission.Submission.{Submission}
-use Rattle.rounds.specs.declared.running.Running.{Running}
-use Rattle.rounds.specs.Compositions.{with_fence, front_text}
+use Rattle.rounds.specs.{declared.running.Running.{Running}, Compositions.{with_fence, front_text}}
 use Rattle.rounds.specs.Serving.{Stands, BeginsTelling, BeginsEnding, StopsWithin, StopsInText}
 
 -- ---- one piece

@@ -2,11 +2,9 @@
 use Rattle.std.proofs.Common.{◌≡◌, ◌<◌, ◌==◌, ℕ, suc, ◌++◌, Bool, true, false, List, [], ◌∷◌, Some, None, refl, ap, ◌∙◌, arith, if◌then◌else◌}
 use Rattle.std.proofs.lemmas.Bool.{eqb-true}
 use Rattle.mon_monitor.specs.Headline.{job_of, NumbersDiffer, HistoryTells}
-use Rattle.deck_syntax.specs.Decks.{Asked, Commands, Enters, Gives, Drains}
-use Rattle.deck_syntax.specs.Jobs.{job_deck_of}
+use Rattle.deck_syntax.specs.{Decks.{Asked, Commands, Enters, Gives, Drains}, Jobs.{job_deck_of}}
 use Rattle.deck_driver.specs.RunStates.{events_of}
-use Rattle.rounds.specs.Delivery.{text_events}
-use Rattle.rounds.specs.Laws.{EachTells}
+use Rattle.rounds.specs.{Delivery.{text_events}, Laws.{EachTells}}
 
 not_same : (k n : ℕ) → n < k → (k == n) ≡ false
 not_same k n less = by (k == n) refl

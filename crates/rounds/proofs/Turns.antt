@@ -1,10 +1,7 @@
 -- Turns over queues: what they take in all, and how far each account has come at any place.
 use Rattle.std.proofs.Common.{◌≡◌, ◌⊎◌, ℕ, zero, suc, ◌+◌, ◌-◌, ◌≤◌, ◌<◌, max, List, [], ◌∷◌, ◌++◌, length, take, drop, refl, sym, ap, ap₂, ◌∙◌, subst, inl, inr, arith, append_assoc, take-append-drop, length-append, IsPermutation}
 use Rattle.std.specs.List.{AllByRecursion}
-use Rattle.std.proofs.Math.Nat.{le-max_left, le-max_right}
-use Rattle.std.proofs.Math.Seq.{take-append-add}
-use Rattle.std.proofs.lemmas.Bool.{cases_lt}
-use Rattle.std.proofs.lemmas.List.{take-append-le, nil_from_length}
+use Rattle.std.proofs.{Math.Nat.{le-max_left, le-max_right}, Math.Seq.{take-append-add}, lemmas.Bool.{cases_lt}, lemmas.List.{take-append-le, nil_from_length}}
 use Rattle.std.proofs.lemmas.List.Sorted.{IsPermutation-refl, IsPermutation-trans, IsPermutation-append_left, IsPermutation-append_right, IsPermutation-append_comm}
 use Rattle.rounds.specs.Order.{in_turns, longest, texts_of}
 use Rattle.rounds.proofs.Queues.{joined, firsts, others, IsAlone, owned, texts_both, turn_takes, turn_leaves, still_alone}

@@ -2,11 +2,8 @@
 use Rattle.std.proofs.Common.{◌≡◌, ◌≢◌, ℕ, zero, suc, ◌+◌, ◌-◌, ◌<◌, ◌≤◌, true, false, List, [], ◌∷◌, length, Option, Some, None, refl, ap, sym, ◌∙◌, subst, inl, inr, arith, ◌⊎◌, is_some, is_none, IsSome, slice_get, slice_set, position, drop}
 use Rattle.scheduler.proofs.Common.{position_from-zero, range_with_len, position_from, list_all, option_flatten, Standing, Puts, puts_nothing, Sets, Ending, Step, JobEnd, Slot, Empty, seat_of, seats_of, SlotState, SchedulerState, scheduler, seat_at, with_seat, job_in, job_end, seat, turns_left, is_done, end_lines, TurnOr, ended_in, Stepped, jobs_in, Ahead, Going, IsLone, GoesOn, GoesToEnd, EndStays, SeatEnds, LoneEnds, Turned, Goes, told}
 use Rattle.sno_run.specs.declared.ending.Step.TheVariants as step
-use Rattle.scheduler.proofs.Shorthand.{turns_ahead}
-use Rattle.scheduler.proofs.Seats.{set_get, set_set, map_set, none_at, none_of, seated_not_done}
-use Rattle.scheduler.proofs.Seating.{seat_changed, taken_seat}
-use Rattle.scheduler.proofs.Past.{either_way, Falls, falls, with_less}
-use Rattle.scheduler.proofs.Calls.{empty_turn, stepped_turn, with_jobs, seat_is}
+use Rattle.scheduler.proofs.{Shorthand.{turns_ahead}, Seats.{set_get, set_set, map_set, none_at, none_of, seated_not_done}, Seating.{seat_changed, taken_seat}}
+use Rattle.scheduler.proofs.{Past.{either_way, Falls, falls, with_less}, Calls.{empty_turn, stepped_turn, with_jobs, seat_is}}
 use Rattle.scheduler.proofs.Rounding.{append_empty, begin, ahead_skip, ahead_more, going_begins, going_more}
 
 -- THE SEAT

@@ -1,8 +1,7 @@
 -- Whether no data set is tied by units of two slots can be told.
 use Rattle.std.proofs.Common.{◌≡◌, ◌≢◌, ℕ, zero, suc, ◌<◌, Bool, true, false, List, [], ◌∷◌, Option, Some, None, option_map, refl, ap, sym, ◌∙◌, subst, inl, inr, arith, ◌⊎◌, ◌↔◌, not, ◌&&◌, slice_get, nat_lt}
 use Rattle.scheduler.proofs.Common.{list_any, any_passes_from_place, option_flatten, Sets, TiedTo, Slot, SlotState, scheduler, seat_at, slot_of, seat_of, seats_of, Independent, seats_share, are_apart}
-use Rattle.scheduler.proofs.Seats.{map_get}
-use Rattle.scheduler.proofs.Shared.{any_place, shared_set, they_share}
+use Rattle.scheduler.proofs.{Seats.{map_get}, Shared.{any_place, shared_set, they_share}}
 
 both_true : (a b : Bool) → (a && b) ≡ true → (a ≡ true) × (b ≡ true)
 both_true true true h = (refl, refl)

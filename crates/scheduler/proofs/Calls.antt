@@ -5,8 +5,7 @@ use Rattle.interaction.specs.Counting.{Passed}
 use Rattle.interaction.specs.Counting as counting
 use Rattle.sno_run.specs.declared.ending.Step.TheVariants as step
 use Rattle.mon_unit.specs.Runs.{passed}
-use Rattle.scheduler.proofs.Seats.{set_get, get_set, set_set, map_get, map_set}
-use Rattle.scheduler.proofs.Shorthand.{turn_as_by, broken_by}
+use Rattle.scheduler.proofs.{Seats.{set_get, get_set, set_set, map_get, map_set}, Shorthand.{turn_as_by, broken_by}}
 
 -- a statement may begin where a turn is broken off
 pub may_break_is : (job : Job) → job.ended ≡ None → MayBegin job → may_break job ≡ true

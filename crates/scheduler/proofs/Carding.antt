@@ -1,8 +1,7 @@
 -- Unit cards are refused by which units are tied already.
 use Rattle.std.proofs.Common.{◌≡◌, ℕ, zero, suc, ◌+◌, ◌<◌, ◌≤◌, Bool, true, false, List, [], ◌∷◌, length, get_or, drop, Some, None, refl, sym, ap, ◌∙◌, map, option_map, replicate, nat_lt, ◌==◌, ◌||◌, if◌then◌else◌, slice_get, slice_set}
 use Rattle.scheduler.proofs.Common.{at_drop_more, at_drop_all, option_or, Set, Tie, UnitError, UnitRange, UnitTwice, UnitState, new_units, is_a_set, tied_to, tie_refusal, statements_of, find_account, NoAccount, Cards, UnitCard, refused_by, tied_by, ties_refusal, ToldByCards, cards_refused, missing, program_refusal, or_untied}
-use Rattle.scheduler.proofs.Seats.{map_set}
-use Rattle.scheduler.proofs.Shorthand.{data_of}
+use Rattle.scheduler.proofs.{Seats.{map_set}, Shorthand.{data_of}}
 
 abbrev pub is_tied : Tie → Bool
 is_tied tie = is_a_set tie.target

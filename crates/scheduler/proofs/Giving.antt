@@ -2,8 +2,7 @@
 use Rattle.std.proofs.Common.{◌≡◌, ℕ, zero, suc, ◌+◌, ◌-◌, ◌<◌, List, [], ◌∷◌, ◌++◌, Option, Some, None, replicate, refl, ap, sym, ◌∙◌, subst, arith, append_assoc, slice_get, slice_set}
 use Rattle.scheduler.proofs.Common.{option_flatten, Step, Standing, JobEnd, Empty, SlotState, SchedulerState, seat_at, with_seat, job_in, after_turn, job_end, seat, ends_by, Mark, Marks, ran_as, nothing, until, never, ends_then, asked_in, exchanged_lines, end_lines, lines_until, TurnOr, UntilIs, MarkedIs, Ahead, Turned, Goes, Ended, told}
 use Rattle.sno_run.specs.declared.ending.Step.TheVariants as step
-use Rattle.scheduler.proofs.Rounding.{append_empty, passed, begin, ahead_more}
-use Rattle.scheduler.proofs.Shorthand.{turn_as_by}
+use Rattle.scheduler.proofs.{Rounding.{append_empty, passed, begin, ahead_more}, Shorthand.{turn_as_by}}
 
 not_empty : (st : Step) (slot : SlotState) → told st slot ≡ Empty → ⊥
 not_empty step.Goes slot h = let k : Goes ≡ Empty = h in cc (k)

@@ -3,9 +3,7 @@ use Rattle.std.proofs.Common.{◌≡◌, ◌≢◌, ℕ, zero, suc, ◌+◌, ◌
 use Rattle.scheduler.proofs.Common.{AllByRecursion, list_all, range_with_len, option_flatten, Sets, Step, serve, JobEnd, SlotState, SchedulerState, seat_at, with_seat, job_in, first_free, reached, ran, after_turn, seat, turned, turn_by, ends_by, Mark, Marks, mark_of, may_break, ran_as, turn_as, Past, nothing, until, marked, rounds, turns_left, is_done, has_free_slot, drain, room, ends_then, Unmarked, NoneByMemory, TakesOneMark, AtLast, Enough, Memory, Turned, Ended}
 use Rattle.sno_run.specs.declared.ending.Step.TheVariants as step
 use Rattle.scheduler.specs.Turns.{turn}
-use Rattle.scheduler.proofs.Begun.{Less, job_less}
-use Rattle.scheduler.proofs.Seats.{seat_length, none_at}
-use Rattle.scheduler.proofs.Shorthand.{turns_ahead, turn_as_by, broken_by}
+use Rattle.scheduler.proofs.{Begun.{Less, job_less}, Seats.{seat_length, none_at}, Shorthand.{turns_ahead, turn_as_by, broken_by}}
 
 pub either_way : (b : Bool) → (b ≡ true) ⊎ (b ≡ false)
 either_way true = inl refl

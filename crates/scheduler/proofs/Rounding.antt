@@ -2,9 +2,7 @@
 use Rattle.std.proofs.Common.{◌≡◌, ◌≢◌, ℕ, suc, ◌+◌, ◌-◌, ◌<◌, ◌≤◌, Bool, true, false, List, [], ◌∷◌, ◌++◌, length, refl, ap, sym, ◌∙◌, subst, inl, inr, arith, append_assoc, map, Option, Some, None, is_some}
 use Rattle.scheduler.proofs.Common.{range_with_len, Standing, puts_nothing, puts_then, JobEnd, Empty, Goal, SlotState, SchedulerState, job_in, ends_by, Marks, Past, nothing, until, rounds, turns_left, rounds_until, is_done, ends_then, turn_lines, lines_until, lines_of_rounds, TurnOr, UntilIs, RoundsAre, ended_in, Ahead, RoundTo, Going, GoingTo, Unless, stop_of, Turned, Goes, Ended}
 use Rattle.scheduler.specs.declared.rounds.Goal.TheVariants as goal
-use Rattle.scheduler.specs.Turning.{Passed}
-use Rattle.scheduler.proofs.Calls.{empty_turn}
-use Rattle.scheduler.proofs.Lines.{lines_stop, lines_go, lines_append, lines_after, lines_same}
+use Rattle.scheduler.{specs.Turning.{Passed}, proofs.Calls.{empty_turn}, proofs.Lines.{lines_stop, lines_go, lines_append, lines_after, lines_same}}
 use Rattle.scheduler.proofs.Past.{until_stops, until_goes, until_append, until_length, after_past, rounds_same, round_falls, room_at_last}
 
 pub append_empty : {A : Type 0} (xs : List A) → xs ++ [] ≡ xs

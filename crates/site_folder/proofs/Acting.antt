@@ -1,11 +1,10 @@
 -- What acts come to, one after the other.
 use Rattle.std.proofs.Common.{◌≡◌, ◌≤◌, ◌<◌, ℕ, ◌+◌, List, [], ◌∷◌, ◌++◌, length, map, drop, get_or, sym, ◌∙◌, ap, subst, arith, length-drop}
 use Rattle.std.proofs.lemmas.List.{drop_more}
-use Rattle.site_folder.specs.declared.parts.Act.{Act as AnyAct}
-use Rattle.site_folder.specs.declared.parts.Act.TheVariants as act
-use Rattle.site_folder.specs.Files.{Files, Given, with_all, Gives}
+use Rattle.site_folder.specs.{declared.parts.Act.{Act as AnyAct}, Files.{Files, Given, with_all, Gives}}
 use Rattle.site_folder.specs.Parts.{seen_act, count_of, put_by, puts_of, removal_by, removals_of, total}
 use Rattle.site_folder.proofs.Giving.{with_all-append, Within, gives_left, gives_right}
+use Rattle.site_folder.specs.declared.parts.Act.TheVariants as act
 
 -- an act, where it does not matter which
 abbrev pub any_act : AnyAct

@@ -1,16 +1,9 @@
 -- What is printed of acts is read as these.
 use Rattle.std.proofs.Common.{◌≡◌, ℕ, ◌+◌, ◌^◌, ◌<◌, Bool, true, false, not, ◌&&◌, ◌==◌, nat_lt, if◌then◌else◌, List, [], ◌∷◌, ◌++◌, length, take, drop, filter, Option, None, Some, cond, refl, sym, ap, ◌∙◌, arith, append_assoc, length-append}
-use Rattle.std.specs.Prelude.{decimal}
-use Rattle.std.specs.List.{AllByRecursion, list_all, slice_split, position, position_or_len}
-use Rattle.std.proofs.lemmas.Bool.Decides.{nat_tests}
-use Rattle.std.proofs.lemmas.List.{take_at, drop_at}
-use Rattle.std.proofs.lemmas.List.Elements.{All-from_recursion}
-use Rattle.std.proofs.lemmas.List.Splits.{slice_split_at}
+use Rattle.std.specs.{Prelude.{decimal}, List.{AllByRecursion, list_all, slice_split, position, position_or_len}}
+use Rattle.std.proofs.lemmas.{Bool.Decides.{nat_tests}, List.{take_at, drop_at}, List.Elements.{All-from_recursion}, List.Splits.{slice_split_at}}
 use borrow.Author.Tests.{lt-ltb, ne_eqb}
-use Rattle.mon_text.specs.Characters.{is_digit, is_blank, is_line_feed}
-use Rattle.mon_text.specs.Counts.{value_of}
-use Rattle.mon_text.specs.Feeding.{has_no_end}
-use Rattle.mon_text.specs.Lines.{is_nonempty}
+use Rattle.mon_text.specs.{Characters.{is_digit, is_blank, is_line_feed}, Counts.{value_of}, Feeding.{has_no_end}, Lines.{is_nonempty}}
 use Rattle.mon_text.proofs.Counted.{AreDigitsOf, digits_of_decimal, is_count_of}
 use Rattle.site_folder.specs.Parts.{Act, Puts, Removes, IsSpellable, is_owed, act_line, parts_text, put_words, put_at, put_act, act_of, and_act, acts_of_lines, acts_of}
 

@@ -1,13 +1,9 @@
 -- What a crash leaves while a round is committed, and delivered.
 use Rattle.std.proofs.Common.{◌≡◌, ◌≢◌, inl, inr, ⊎_elim, ℕ, Bool, true, false, if◌then◌else◌, List, [], ◌∷◌, length, Option, None, Some, is_some, is_none, ◌&&◌, bytes_eq, codes, refl, sym, ◌∙◌, ap, subst, arith, length-append}
-use Rattle.std.specs.Prelude.{decimal}
-use Rattle.std.proofs.lemmas.Slice.Eq.{bytes_eq-Decides}
-use Rattle.site_folder.specs.declared.names.RoundNames.{RoundNames}
-use Rattle.site_folder.specs.Files.{Files, Given, put_of, with_given, with_all, Gives, AreSomeGiven}
+use Rattle.std.{specs.Prelude.{decimal}, proofs.lemmas.Slice.Eq.{bytes_eq-Decides}}
+use Rattle.site_folder.specs.{declared.names.RoundNames.{RoundNames}, Files.{Files, Given, put_of, with_given, with_all, Gives, AreSomeGiven}}
+use Rattle.site_folder.{specs.inner.Found.{named, with_output, IsStaging}, proofs.Giving.{all_given, one_given}, proofs.Paying.{settles}}
 use Rattle.site_folder.specs.Rounds.{round_name, replies_name, parts_name, output_name, done_name, staged, committed, settled, owed, owed_in, owed_by, IsCommitting, IsDelivering}
-use Rattle.site_folder.specs.inner.Found.{named, with_output, IsStaging}
-use Rattle.site_folder.proofs.Giving.{all_given, one_given}
-use Rattle.site_folder.proofs.Paying.{settles}
 
 -- where the replies and the parts are on the disk, the output is put or not
 pub output_staged : (names : RoundNames) (replies parts output : List ℕ) (f c : Files) → AreSomeGiven (put_of names.output.items output ∷ []) (with_all (named names replies parts) f) c → IsStaging names replies parts output f c

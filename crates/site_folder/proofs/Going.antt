@@ -1,7 +1,6 @@
 -- How calls go by, one after the other.
 use Rattle.std.proofs.Common.{inl, inr, ⊎_elim, ℕ, subst, arith}
-use Rattle.site_folder.specs.Files.{Files}
-use Rattle.site_folder.specs.Crashes.{Only, GoesBy, LeavesOnly}
+use Rattle.site_folder.specs.{Files.{Files}, Crashes.{Only, GoesBy, LeavesOnly}}
 
 module _ {F : Type 0} (moment : F → ℕ) (left_since : F → ℕ → Files → Type 0) (may_leave : F → Files → Type 0) where
   -- no call went by

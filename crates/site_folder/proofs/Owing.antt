@@ -1,13 +1,8 @@
 -- Acts of the replies, and behind them acts of the output: each is given its own bytes.
 use Rattle.std.proofs.Common.{◌≡◌, ◌≤◌, ℕ, ◌+◌, Bool, if◌then◌else◌, List, [], ◌∷◌, ◌++◌, length, drop, Option, None, Some, option_map, refl, sym, ap, ap₂, ◌∙◌, arith, append_assoc, length-append, length-drop}
-use Rattle.std.specs.List.{AllByRecursion}
-use Rattle.std.proofs.lemmas.Bool.Decides.{Decides-eqb}
-use Rattle.std.proofs.lemmas.List.{take-append-le, drop-append-le}
-use Rattle.site_folder.specs.Files.{Given, put_of}
-use Rattle.site_folder.specs.Parts.{Act, Puts, Removes, IsSpellable, total, count_of, put_by, puts_of, removal_by, removals_of}
-use Rattle.site_folder.specs.Rounds.{fitting, owed_of, owed_for}
-use Rattle.site_folder.specs.Laws.{OwesEachItsOwn}
-use Rattle.site_folder.proofs.Back.{reads_back}
+use Rattle.std.{specs.List.{AllByRecursion}, proofs.lemmas.Bool.Decides.{Decides-eqb}, proofs.lemmas.List.{take-append-le, drop-append-le}}
+use Rattle.site_folder.specs.{Files.{Given, put_of}, Parts.{Act, Puts, Removes, IsSpellable, total, count_of, put_by, puts_of, removal_by, removals_of}}
+use Rattle.site_folder.{specs.Rounds.{fitting, owed_of, owed_for}, specs.Laws.{OwesEachItsOwn}, proofs.Back.{reads_back}}
 
 total_both : (first second : List Act) → total (first ++ second) ≡ total first + total second
 total_both [] second = omega arith

@@ -1,14 +1,11 @@
 -- What a crash leaves while a debt is paid, and what settling it again comes to.
 use Rattle.std.proofs.Common.{◌≡◌, ◌≢◌, ◌⊎◌, inl, inr, ⊎_elim, ℕ, ◌+◌, Bool, true, false, ◌&&◌, ◌==◌, if◌then◌else◌, List, [], ◌∷◌, ◌++◌, length, take, drop, filter, Option, None, Some, option_map, is_some, bytes_eq, codes, refl, sym, ◌∙◌, ap, subst}
-use Rattle.std.specs.List.{AllByRecursion, slice_split, position}
-use Rattle.std.proofs.lemmas.Slice.Eq.{bytes_eq-Decides}
-use Rattle.mon_text.specs.Characters.{is_blank, is_line_feed}
-use Rattle.mon_text.specs.Lines.{is_nonempty}
-use Rattle.mon_text.specs.Counts.{is_count, value_of}
+use Rattle.std.{specs.List.{AllByRecursion, slice_split, position}, proofs.lemmas.Slice.Eq.{bytes_eq-Decides}}
+use Rattle.mon_text.specs.{Characters.{is_blank, is_line_feed}, Lines.{is_nonempty}, Counts.{is_count, value_of}}
 use Rattle.site_folder.specs.Files.{Files, Given, put_of, with_given, with_all, Gives, AreSomeGiven}
+use Rattle.site_folder.proofs.Giving.{same_files, all_given, with_all-append, gives_left, gives_right, more_given, both_given, one_given}
 use Rattle.site_folder.specs.Parts.{Act, Puts, Removes, is_owed, is_taken, begins, put_words, put_at, put_act, act_of, and_act, acts_of_lines, acts_of, total, puts_of, removals_of}
 use Rattle.site_folder.specs.Rounds.{round_name, done_name, replies_name, parts_name, output_name, Owed, owed_of, owed_for, owed_in, owed, paid, settled, IsPaying, IsSettling}
-use Rattle.site_folder.proofs.Giving.{same_files, all_given, with_all-append, gives_left, gives_right, more_given, both_given, one_given}
 
 -- ---- names that are given, and those that are not
 

@@ -1,8 +1,7 @@
 -- Bytes in two pieces; and what acts owe of them.
 use Rattle.std.proofs.Common.{◌≡◌, ◌≤◌, ℕ, ◌+◌, ◌-◌, List, ◌++◌, length, take, Option, Some, option_map, sym, ap, ◌∙◌, arith, length-append}
 use Rattle.std.proofs.Math.Seq.{take-append-add}
-use Rattle.site_folder.specs.Parts.{Act}
-use Rattle.site_folder.specs.Rounds.{fitting, owed_of, owed_for}
+use Rattle.site_folder.specs.{Parts.{Act}, Rounds.{fitting, owed_of, owed_for}}
 
 -- more bytes than the first piece has: all of it, and some of the second
 pub across : (count : ℕ) (first second bytes : List ℕ) → length first ≤ count → bytes ≡ take (count - length first) second → first ++ bytes ≡ take count (first ++ second)

@@ -1,12 +1,8 @@
 -- What one event more makes of a folder in memory.
 use Rattle.std.proofs.Common.{◌≡◌, ◌⊎◌, inl, inr, ⊎_elim, ℕ, ◌+◌, ◌≤◌, Bool, true, false, List, [], ◌∷◌, ◌++◌, length, take, Option, None, Some, if◌then◌else◌, bytes_eq, refl, sym, ◌∙◌, ap, subst, arith, length-append}
-use Rattle.std.proofs.lemmas.Slice.Eq.{bytes_eq-Decides}
-use Rattle.std.proofs.lemmas.Bool.{cases_eq}
-use Rattle.std.proofs.lemmas.List.{take-append-le, take_all}
-use Rattle.site_folder.specs.Files.{Files, Given, with_given, Gives, AreSomeGiven}
-use Rattle.site_folder.specs.Crashes.{Only, GoesBy}
+use Rattle.std.proofs.lemmas.{Slice.Eq.{bytes_eq-Decides}, Bool.{cases_eq}, List.{take-append-le, take_all}}
+use Rattle.site_folder.specs.{Files.{Files, Given, with_given, Gives, AreSomeGiven}, Crashes.{Only, GoesBy}, declared.memory.MemoryFolder.{MemoryFolder}}
 use Rattle.site_folder.specs.Memory.{Disk, next_disk, disk_after, disk_of, found_on, IsLeft, events_of, WasLeft, after_events}
-use Rattle.site_folder.specs.declared.memory.MemoryFolder.{MemoryFolder}
 use Rattle.site_folder.proofs.Giving.{same_files, with_all-append, none_given, all_given}
 
 abbrev Events : Type 0

@@ -1,28 +1,16 @@
 -- The data sets that a catalogue's file gives are those that its lines spell.
 use Rattle.std.proofs.Common.{◌≡◌, ℕ, ◌+◌, Bool, true, false, if◌then◌else◌, List, [], ◌∷◌, length, Option, None, Some, Result, Ok, Err, refl, sym, ap, ◌∙◌}
-use Rattle.std.specs.List.{AllByRecursion}
-use Rattle.std.specs.Option.{option_or, option_map_or}
-use Rattle.std.specs.Str.Lines.{lines}
+use Rattle.std.specs.{List.{AllByRecursion}, Option.{option_or, option_map_or}, Str.Lines.{lines}}
 use Rattle.mon_text.specs.Lines.{is_blank_line, words}
-use Rattle.mon_catalogue.specs.declared.version.Version.{Version}
+use Rattle.mon_catalogue.specs.{declared.version.Version.{Version}, Progress.{Progress, step, is_due, finished}, Sets.{Sets}}
+use Rattle.mon_catalogue.proofs.{Shorthand.{after_lines}, Whole.{text_spells}}
 use Rattle.mon_catalogue.specs.Progress as progress
-use Rattle.mon_catalogue.specs.Progress.{Progress, step, is_due, finished}
-use Rattle.mon_catalogue.specs.Sets.{Sets}
-use Rattle.mon_catalogue.proofs.Shorthand.{after_lines}
-use Rattle.mon_catalogue.proofs.Whole.{text_spells}
-use Rattle.deck_lines.specs.declared.deck_error.DeckError.{DeckError}
+use Rattle.deck_lines.specs.{declared.deck_error.DeckError.{DeckError}, CardLines.{IsLineWithin, IsCard}, Refusing.{line_refusal, is_dollar_line}}
 use Rattle.deck_lines.specs.declared.card.Card.TheVariants as card
-use Rattle.deck_lines.specs.CardLines.{IsLineWithin, IsCard}
-use Rattle.deck_syntax.specs.Spelling.{version_words}
-use Rattle.deck_lines.specs.Refusing.{line_refusal, is_dollar_line}
-use Rattle.deck_syntax.specs.Sections.{account_refusal, accounts_refusal, catalogue_refusal, ends_catalogue}
-use Rattle.deck_syntax.specs.inner.Parts.{version_in, heading_refusal}
-use Rattle.deck_syntax.proofs.Spelled.{neither, taken_line}
-use Rattle.deck_syntax.proofs.Headings.{heading_spelled}
-use Rattle.site_plan.specs.declared.catalogue.CatalogueFault.{CatalogueFault}
-use Rattle.site_plan.specs.declared.catalogue.CatalogueFault.TheVariants.{Line, NoCard, Ends}
-use Rattle.site_plan.specs.Walks.{and_then, at_line, walked}
-use Rattle.site_plan.specs.Catalogues.{after_line, is_ended, whole, sets_behind, sets_in, SpellsCatalogue}
+use Rattle.deck_syntax.specs.{Spelling.{version_words}, Sections.{account_refusal, accounts_refusal, catalogue_refusal, ends_catalogue}}
+use Rattle.deck_syntax.{specs.inner.Parts.{version_in, heading_refusal}, proofs.Spelled.{neither, taken_line}, proofs.Headings.{heading_spelled}}
+use Rattle.site_plan.specs.declared.catalogue.CatalogueFault.{CatalogueFault, TheVariants.{Line, NoCard, Ends}}
+use Rattle.site_plan.specs.{Walks.{and_then, at_line, walked}, Catalogues.{after_line, is_ended, whole, sets_behind, sets_in, SpellsCatalogue}}
 use Rattle.site_plan.specs.Laws.{GivesSets}
 
 -- lines that were taken are steps, and fit

@@ -1,29 +1,14 @@
 -- The accounts that a table gives are those that its lines spell, and have different names.
 use Rattle.std.proofs.Common.{◌≡◌, ℕ, ◌+◌, ◌==◌, Bool, true, false, if◌then◌else◌, List, [], ◌∷◌, ◌++◌, length, Option, None, Some, Result, Ok, Err, is_some, refl, sym, ap, subst, ◌∙◌, append_assoc, append-nil}
-use Rattle.std.specs.Prelude.{bytes_eq}
-use Rattle.std.specs.List.{IsDistinct}
-use Rattle.std.specs.Option.{option_or, option_map_or}
-use Rattle.std.specs.Str.Lines.{lines}
-use Rattle.std.specs.Cmp.Lexicographic.{nat_list_eq_equiv}
-use Rattle.std.proofs.lemmas.List.{map-append}
-use Rattle.std.proofs.lemmas.Map.Keys.{IsDistinct-push}
+use Rattle.std.specs.{Prelude.{bytes_eq}, List.{IsDistinct}, Option.{option_or, option_map_or}, Str.Lines.{lines}, Cmp.Lexicographic.{nat_list_eq_equiv}}
+use Rattle.std.proofs.lemmas.{List.{map-append}, Map.Keys.{IsDistinct-push}}
 use Rattle.mon_text.specs.Lines.{is_blank_line, words}
-use Rattle.mon_access.specs.declared.account.Account.{Account}
-use Rattle.mon_access.specs.Accounts.{find_account, names_of, HaveDifferentNames}
-use Rattle.deck_lines.specs.declared.deck_error.DeckError.{DeckError}
-use Rattle.deck_lines.specs.CardLines.{IsLineWithin}
-use Rattle.deck_lines.specs.Refusing.{line_refusal, is_dollar_line}
-use Rattle.deck_syntax.specs.Sections.{account_on, account_refusal, accounts_refusal, table_after}
-use Rattle.deck_syntax.specs.Spelling.{SpellsAccounts}
-use Rattle.deck_syntax.specs.inner.Parts.{heading_refusal}
-use Rattle.deck_syntax.proofs.Spelled.{neither, taken_line}
-use Rattle.deck_syntax.proofs.Complete.{any_account}
-use Rattle.deck_syntax.proofs.Sound.{blank_before, account_spelled}
-use Rattle.site_plan.specs.declared.table.TableFault.{TableFault}
-use Rattle.site_plan.specs.declared.table.TableFault.TheVariants.{Line, Heading, NoAccount}
-use Rattle.site_plan.specs.Walks.{and_then, at_line, walked}
-use Rattle.site_plan.specs.Tables.{after_line, if_any}
-use Rattle.site_plan.specs.Laws.{IsGoodTable, GivesAccounts}
+use Rattle.mon_access.specs.{declared.account.Account.{Account}, Accounts.{find_account, names_of, HaveDifferentNames}}
+use Rattle.deck_lines.specs.{declared.deck_error.DeckError.{DeckError}, CardLines.{IsLineWithin}, Refusing.{line_refusal, is_dollar_line}}
+use Rattle.deck_syntax.specs.{Sections.{account_on, account_refusal, accounts_refusal, table_after}, Spelling.{SpellsAccounts}, inner.Parts.{heading_refusal}}
+use Rattle.deck_syntax.proofs.{Spelled.{neither, taken_line}, Complete.{any_account}, Sound.{blank_before, account_spelled}}
+use Rattle.site_plan.specs.declared.table.TableFault.{TableFault, TheVariants.{Line, Heading, NoAccount}}
+use Rattle.site_plan.specs.{Walks.{and_then, at_line, walked}, Tables.{after_line, if_any}, Laws.{IsGoodTable, GivesAccounts}}
 
 push_name : (done : List Account) (account : Account) → HaveDifferentNames done → is_some (find_account done account.name) ≡ false
     → HaveDifferentNames (done ++ account ∷ [])

@@ -1,21 +1,13 @@
 -- Why a text runs, or does not.
 use Rattle.std.proofs.Common.{◌≡◌, ℕ, List, [], ◌++◌, length, Option, Some, None, refl, sym, ap, subst, ◌∙◌, append-nil}
-use Rattle.std.specs.Option.{option_or}
-use Rattle.std.specs.Str.Lines.{lines}
+use Rattle.std.specs.{Option.{option_or}, Str.Lines.{lines}}
 use Rattle.deck_syntax.specs.Decks.{Asked}
-use Rattle.preflight.specs.declared.submission.Submission.{Submission}
-use Rattle.preflight.specs.declared.why.Refusal.{Refusal}
-use Rattle.preflight.specs.Examined.{IsSubmission, IsFirstWrong, Verdict, Admits, Refuses, IsVerdict}
-use Rattle.preflight.specs.Submissions.{IsAdmitted, lines_of}
-use Rattle.preflight.specs.Tallies.{tally_of}
-use Rattle.preflight.proofs.FirstWrong.{one_verdict}
-use Rattle.site_plan.specs.declared.taken.Taken.{Taken}
-use Rattle.site_plan.specs.declared.claimed.Found.{Found}
-use Rattle.site_plan.specs.declared.desk.Desk.{Desk}
-use Rattle.site_plan.specs.declared.reason.Reason.{Reason}
-use Rattle.site_plan.specs.declared.reason.Reason.TheVariants as reason
+use Rattle.preflight.specs.{declared.submission.Submission.{Submission}, declared.why.Refusal.{Refusal}, Submissions.{IsAdmitted, lines_of}, Tallies.{tally_of}}
+use Rattle.preflight.{specs.Examined.{IsSubmission, IsFirstWrong, Verdict, Admits, Refuses, IsVerdict}, proofs.FirstWrong.{one_verdict}}
+use Rattle.site_plan.specs.declared.{taken.Taken.{Taken}, claimed.Found.{Found}, desk.Desk.{Desk}, reason.Reason.{Reason}}
 use Rattle.site_plan.specs.Tables.{ended_lines}
 use Rattle.site_plan.specs.Judging.{no_text, text_in, desk_of, weighed_by, why_examined, why_not, IsWeighedAs, IsRefusedFor, Told, told_for, IsJudged}
+use Rattle.site_plan.specs.declared.reason.Reason.TheVariants as reason
 
 module _ (own : List ℕ) (found : Found) where
   -- there is no text

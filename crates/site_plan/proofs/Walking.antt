@@ -1,9 +1,7 @@
 -- A text, read line by line: what is known so far, and the lines that are left, come to what the whole text comes to.
 use Rattle.std.proofs.Common.{◌≡◌, ℕ, ◌+◌, List, [], ◌∷◌, Result, Ok, Err, sym, ap, ◌∙◌}
 use Rattle.std.specs.Str.Lines.{lines}
-use Rattle.mon_text.specs.declared.stop.Stop.{Stop}
-use Rattle.mon_text.specs.declared.stop.Stop.TheVariants.{Refused, Memory}
-use Rattle.mon_text.specs.Stops.{Gives}
+use Rattle.mon_text.specs.{declared.stop.Stop.{Stop}, declared.stop.Stop.TheVariants.{Refused, Memory}, Stops.{Gives}}
 use Rattle.preflight.specs.Submissions.{IfStopped}
 use Rattle.site_plan.specs.Walks.{and_then, at_line, walked, stop_at}
 

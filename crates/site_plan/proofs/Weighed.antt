@@ -1,14 +1,8 @@
 -- One text more on a desk.
 use Rattle.std.proofs.Common.{◌≡◌, ℕ, Bool, true, false, ◌&&◌, not, List, [], ◌∷◌, ◌++◌, Option, Some, None, option_map, is_some, bytes_eq, refl, sym, ap, ◌∙◌, fold}
-use Rattle.std.specs.List.{list_all}
-use Rattle.std.proofs.lemmas.List.Folds.{list_all-append}
-use Rattle.std.proofs.lemmas.List.Sums.{fold-append}
-use Rattle.preflight.specs.declared.tally.Tally.{Tally}
-use Rattle.preflight.specs.declared.quota.Quota.{Quota}
-use Rattle.preflight.specs.declared.quota.HandedIn.{HandedIn}
-use Rattle.preflight.specs.Allowances.{with_text}
-use Rattle.site_plan.specs.declared.runs.Runs.{Runs}
-use Rattle.site_plan.specs.Weighing.{stopped_by, weighed, tallies, are_within, are_of}
+use Rattle.std.{specs.List.{list_all}, proofs.lemmas.List.Folds.{list_all-append}, proofs.lemmas.List.Sums.{fold-append}}
+use Rattle.preflight.specs.{declared.tally.Tally.{Tally}, declared.quota.Quota.{Quota}, declared.quota.HandedIn.{HandedIn}, Allowances.{with_text}}
+use Rattle.site_plan.specs.{declared.runs.Runs.{Runs}, Weighing.{stopped_by, weighed, tallies, are_within, are_of}}
 
 none_before : {A B : Type 0} (f : A → B) (o : Option A) → option_map f o ≡ None → o ≡ None
 none_before f None e = refl

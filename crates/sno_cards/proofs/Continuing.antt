@@ -1,13 +1,8 @@
 -- A line goes on over the cards that continue it.
 use Rattle.std.proofs.Common.{◌≡◌, ℕ, ◌+◌, true, false, List, [], ◌∷◌, ◌++◌, drop, filter, refl, sym, ap, ◌∙◌, arith}
-use Rattle.sno_cards.specs.declared.card.CardKind.{CardKind}
-use Rattle.sno_cards.specs.declared.card.CardKind.TheVariants.{Comment, Control, UnknownControl, Continuation, Start}
-use Rattle.sno_cards.specs.Texts.{Placed}
-use Rattle.sno_cards.specs.Cards.{kind_of, is_start, is_continuation}
-use Rattle.sno_cards.specs.Statements.{placed_on, without_mark, numbered, continued, statements_in}
-use Rattle.sno_cards.specs.inner.Parts.{is_statement_card}
-use Rattle.sno_cards.specs.inner.Cuts.{Cut, begun, ended, fed}
-use Rattle.sno_cards.proofs.Pieces.{line_cut, fed-append}
+use Rattle.sno_cards.specs.declared.card.CardKind.{CardKind, TheVariants.{Comment, Control, UnknownControl, Continuation, Start}}
+use Rattle.sno_cards.specs.{Texts.{Placed}, Cards.{kind_of, is_start, is_continuation}, inner.Parts.{is_statement_card}, inner.Cuts.{Cut, begun, ended, fed}}
+use Rattle.sno_cards.{specs.Statements.{placed_on, without_mark, numbered, continued, statements_in}, proofs.Pieces.{line_cut, fed-append}}
 
 -- what continues a line on these cards, the first having this number
 abbrev pub on_cards : ℕ → List (List ℕ) → List Placed

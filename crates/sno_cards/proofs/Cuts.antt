@@ -1,10 +1,7 @@
 -- A line is cut into its pieces, and into no others.
 use Rattle.std.proofs.Common.{◌≡◌, ℕ, Bool, true, false, not, ◌&&◌, List, [], ◌∷◌, ◌++◌, Option, Some, None, if◌then◌else◌, refl, sym, ap, ◌∙◌, subst, arith}
-use Rattle.std.specs.List.{onto_first}
-use Rattle.std.proofs.lemmas.Bool.Decides.{nat_tests}
-use Rattle.sno_cards.specs.Texts.{Placed}
-use Rattle.sno_cards.specs.Cards.{is_semicolon}
-use Rattle.sno_cards.specs.Statements.{literal_after, ends_statement, pieces}
+use Rattle.std.{specs.List.{onto_first}, proofs.lemmas.Bool.Decides.{nat_tests}}
+use Rattle.sno_cards.specs.{Texts.{Placed}, Cards.{is_semicolon}, Statements.{literal_after, ends_statement, pieces}}
 use Rattle.sno_cards.specs.Laws.{is_whole, literal_at_end, IsCut, OneCut}
 use Rattle.mon_text.specs.Characters.{is_quote}
 

@@ -1,11 +1,8 @@
 -- The definitions on worked cases.
 use Rattle.std.proofs.Common.{◌≡◌, ℕ, List, [], ◌∷◌, Result, Ok, Err, map, refl}
 use Rattle.std.specs.Prelude.{codes}
-use Rattle.sno_cards.specs.declared.refusal.SyntaxError.{SyntaxError}
+use Rattle.sno_cards.specs.{declared.refusal.SyntaxError.{SyntaxError}, Texts.{text_of}, Programs.{ProgramText}, Statements.{refused_card, statements_of}}
 use Rattle.sno_cards.specs.declared.refusal.SyntaxCode.TheVariants.{NoEndLine, NothingToContinue, UnknownControlCard}
-use Rattle.sno_cards.specs.Texts.{text_of}
-use Rattle.sno_cards.specs.Programs.{ProgramText}
-use Rattle.sno_cards.specs.Statements.{refused_card, statements_of}
 
 -- the texts of the statements
 abbrev texts_of : Result ProgramText SyntaxError → List (List ℕ)

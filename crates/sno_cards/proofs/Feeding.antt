@@ -1,11 +1,8 @@
 -- A card is fed to the line that is being cut, character by character.
 use Rattle.std.proofs.Common.{◌≡◌, ◌==◌, ◌||◌, ℕ, ◌+◌, ◌-◌, ◌<◌, ◌≤◌, Bool, true, false, cond, List, [], ◌∷◌, ◌++◌, length, length-drop, take, drop, get_or, Option, Some, None, refl, sym, ap, ◌∙◌, append_assoc, append-nil, arith}
-use Rattle.std.specs.List.{slice_range, list_any}
+use Rattle.std.{specs.List.{slice_range, list_any}, proofs.lemmas.List.{drop_more, take_more, get_or-drop, length-take-le}}
 use Rattle.mon_text.specs.Characters.{is_quote}
-use Rattle.std.proofs.lemmas.List.{drop_more, take_more, get_or-drop, length-take-le}
-use Rattle.sno_cards.specs.Texts.{Placed}
-use Rattle.sno_cards.specs.Statements.{ends_statement, literal_after, placed_on}
-use Rattle.sno_cards.specs.inner.Cuts.{Cut, ended, step, fed}
+use Rattle.sno_cards.specs.{Texts.{Placed}, Statements.{ends_statement, literal_after, placed_on}, inner.Cuts.{Cut, ended, step, fed}}
 
 abbrev at : ℕ → ℕ → ℕ → Placed
 at card column code = record { code = code; place = record { card = card; column = column } }

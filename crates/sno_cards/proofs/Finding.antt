@@ -1,8 +1,6 @@
 -- How many elements stand before the first that passes a test.
 use Rattle.std.proofs.Common.{◌≡◌, ℕ, Bool, cond, ◌≤◌, List, length, arith, Some, None, unwrap_or, position, nat_lt, not}
-use Rattle.std.specs.List.{position_or_len}
-use Rattle.std.proofs.lemmas.List.Sums.{prefix_len-le-length}
-use Rattle.std.proofs.lemmas.Bool.Decides.{nat_tests}
+use Rattle.std.{specs.List.{position_or_len}, proofs.lemmas.List.Sums.{prefix_len-le-length}, proofs.lemmas.Bool.Decides.{nat_tests}}
 
 -- the place that a search finds, or the number of elements
 unwrapped : (place all : ℕ) → place ≤ all → unwrap_or (cond (nat_lt place all) (Some place) None) all ≡ place

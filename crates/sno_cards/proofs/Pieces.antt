@@ -1,9 +1,7 @@
 -- A line that is cut as its characters come has its pieces for its statements.
 use Rattle.std.proofs.Common.{◌≡◌, ℕ, Bool, true, false, List, [], ◌∷◌, ◌++◌, filter, Option, None, if◌then◌else◌, refl, sym, ap, ◌∙◌, append_assoc, append-nil}
-use Rattle.std.specs.List.{onto_first}
-use Rattle.std.proofs.lemmas.List.Elements.{filter-append}
-use Rattle.sno_cards.specs.Texts.{Placed}
-use Rattle.sno_cards.specs.Statements.{pieces, ends_statement, literal_after, is_statement, statements_in}
+use Rattle.std.{specs.List.{onto_first}, proofs.lemmas.List.Elements.{filter-append}}
+use Rattle.sno_cards.specs.{Texts.{Placed}, Statements.{pieces, ends_statement, literal_after, is_statement, statements_in}}
 use Rattle.sno_cards.specs.inner.Cuts.{Cut, begun, ended, step, fed}
 
 -- the pieces of a line whose first piece begins with these characters

@@ -1,12 +1,8 @@
 -- Texts kept as characters and segments.
 use Rattle.std.proofs.Common.{◌≡◌, ℕ, ◌+◌, ◌-◌, ◌^◌, ◌<◌, ◌≤◌, Bool, true, false, ◌&&◌, List, [], ◌∷◌, ◌++◌, length, Result, Ok, Err, is_ok, OnOk, length-append, Some, slice_get, get_or, nat_le, min, if◌then◌else◌, zero, suc, refl, sym, ap, ◌∙◌, subst, arith}
 use Rattle.std.proofs.lemmas.Bool.Decides.{nat_tests}
-use Rattle.sno_cards.specs.declared.refusal.Place.{Place}
-use Rattle.sno_cards.specs.declared.text.Segment.{Segment}
-use Rattle.sno_cards.specs.Texts.{Placed, text_of}
-use Rattle.sno_cards.specs.inner.Parts.{places_of}
-use Rattle.sno_cards.specs.Statements.{placed_on}
-use Rattle.sno_cards.specs.inner.Segments.{AreAscending, nowhere, moved, place_by, placed_by, ascend}
+use Rattle.sno_cards.specs.{declared.refusal.Place.{Place}, declared.text.Segment.{Segment}, Texts.{Placed, text_of}, inner.Parts.{places_of}}
+use Rattle.sno_cards.specs.{Statements.{placed_on}, inner.Segments.{AreAscending, nowhere, moved, place_by, placed_by, ascend}}
 
 -- WHAT IS READ
 

@@ -1,10 +1,7 @@
 -- What a program is, by its first refusal and its END line.
 use Rattle.std.proofs.Common.{◌≡◌, ℕ, ◌+◌, false, List, length, take, Option, Some, None, Ok, Err, IsOk, slice_get, refl, ap, ◌∙◌}
-use Rattle.std.specs.List.{find}
-use Rattle.std.proofs.lemmas.List.Folds.{find_at}
-use Rattle.sno_cards.specs.declared.refusal.SyntaxError.{SyntaxError}
-use Rattle.sno_cards.specs.declared.refusal.SyntaxCode.TheVariants.{NoEndLine}
-use Rattle.sno_cards.specs.Cards.{is_end_line}
+use Rattle.std.{specs.List.{find}, proofs.lemmas.List.Folds.{find_at}}
+use Rattle.sno_cards.specs.{declared.refusal.SyntaxError.{SyntaxError}, declared.refusal.SyntaxCode.TheVariants.{NoEndLine}, Cards.{is_end_line}}
 use Rattle.sno_cards.specs.Statements.{numbered, first_refusal, end_index, refused_card, program_ended_by, statements_of}
 use Rattle.sno_cards.proofs.Shorthand.{program_with, unless_refused}
 

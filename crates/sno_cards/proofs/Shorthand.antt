@@ -1,9 +1,6 @@
 -- Parts of the definitions by names of their own.
-use Rattle.std.specs.Prelude.{ℕ, ◌+◌, List, length, Option, Result, Err}
-use Rattle.std.specs.Option.{ok_or, option_map, option_map_or}
-use Rattle.sno_cards.specs.declared.refusal.SyntaxError.{SyntaxError}
-use Rattle.sno_cards.specs.declared.refusal.SyntaxCode.TheVariants.{NoEndLine}
-use Rattle.sno_cards.specs.Programs.{ProgramText}
+use Rattle.std.specs.{Prelude.{ℕ, ◌+◌, List, length, Option, Result, Err}, Option.{ok_or, option_map, option_map_or}}
+use Rattle.sno_cards.specs.{declared.refusal.SyntaxError.{SyntaxError}, declared.refusal.SyntaxCode.TheVariants.{NoEndLine}, Programs.{ProgramText}}
 use Rattle.sno_cards.specs.Statements.{program_ended_by, refused_card}
 
 abbrev pub program_with : Option (List ℕ) → List (List ℕ) → Result ProgramText SyntaxError

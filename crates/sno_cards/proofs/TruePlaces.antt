@@ -1,19 +1,11 @@
 -- Each character of a statement is the one that is read at its place.
 use Rattle.std.proofs.Common.{◌≡◌, ℕ, ◌+◌, ◌-◌, ◌≤◌, Bool, true, false, ◌&&◌, ◌==◌, List, [], ◌∷◌, ◌++◌, length, drop, filter, Option, Some, None, Ok, slice_get, if◌then◌else◌, refl, sym, ap, ◌∙◌, subst, append_assoc, append-nil, length-append, take-append-drop, arith}
-use Rattle.std.specs.Option.{option_and_then}
-use Rattle.std.specs.List.{All, find, flat_map, onto_first, position_or_len, before_first}
-use Rattle.std.proofs.lemmas.Bool.Decides.{nat_tests}
-use Rattle.std.proofs.lemmas.List.Elements.{All-nil, All-cons, All-head, All-tail, All-append, All-filter}
-use Rattle.std.proofs.lemmas.List.Folds.{find_at}
-use Rattle.sno_cards.specs.declared.card.CardKind.TheVariants.{Start}
-use Rattle.sno_cards.specs.declared.refusal.SyntaxError.{SyntaxError}
-use Rattle.sno_cards.specs.Texts.{Placed}
-use Rattle.sno_cards.specs.Cards.{kind_of, is_end_line, is_semicolon, ends_label, rest_of_end_line}
-use Rattle.sno_cards.specs.Programs.{ProgramText}
+use Rattle.std.specs.{Option.{option_and_then}, List.{All, find, flat_map, onto_first, position_or_len, before_first}}
+use Rattle.std.proofs.lemmas.{Bool.Decides.{nat_tests}, List.Elements.{All-nil, All-cons, All-head, All-tail, All-append, All-filter}, List.Folds.{find_at}}
+use Rattle.sno_cards.specs.{declared.card.CardKind.TheVariants.{Start}, declared.refusal.SyntaxError.{SyntaxError}, Texts.{Placed}, Programs.{ProgramText}}
+use Rattle.sno_cards.specs.{Cards.{kind_of, is_end_line, is_semicolon, ends_label, rest_of_end_line}, inner.Parts.{is_statement_card}}
+use Rattle.sno_cards.{specs.Laws.{as_read, character_at, StandsThere, PlacesAreTrue}, proofs.Shorthand.{program_with, unless_refused}}
 use Rattle.sno_cards.specs.Statements.{Card, numbered, placed_on, without_mark, is_continuation_card, continued, joined, literal_after, ends_statement, pieces, is_statement, statements_in, statements_on, end_index, first_refusal, program_ended_by}
-use Rattle.sno_cards.specs.inner.Parts.{is_statement_card}
-use Rattle.sno_cards.specs.Laws.{as_read, character_at, StandsThere, PlacesAreTrue}
-use Rattle.sno_cards.proofs.Shorthand.{program_with, unless_refused}
 
 -- ONE CARD
 

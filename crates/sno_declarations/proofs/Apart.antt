@@ -1,13 +1,8 @@
 -- Names that are all different.
 use Rattle.std.proofs.Common.{◌≡◌, ℕ, zero, suc, ◌+◌, ◌-◌, ◌<◌, ◌≤◌, Bool, true, false, not, ◌&&◌, ◌||◌, cond, List, [], ◌∷◌, ◌++◌, length, drop, get_or, Ok, Err, refl, sym, ap, ◌∙◌, nat_eq, append-nil, arith}
-use Rattle.std.specs.Prelude.{Result, IfOk}
-use Rattle.std.proofs.lemmas.List.{drop_more}
-use Rattle.std.specs.List.{list_any}
-use Rattle.std.specs.Ordering.{nat_cmp}
-use Rattle.std.specs.Cmp.Lexicographic.{pointwise, slice_cmp, texts_ties}
-use Rattle.std.specs.BTreeSet.{BTreeSet, contains, Updates}
-use Rattle.sno_declarations.specs.Prototypes.{are_different}
-use Rattle.sno_declarations.specs.inner.Reading.{HasMet, Meets}
+use Rattle.std.{specs.Prelude.{Result, IfOk}, proofs.lemmas.List.{drop_more}, specs.List.{list_any}, specs.Ordering.{nat_cmp}}
+use Rattle.std.specs.{Cmp.Lexicographic.{pointwise, slice_cmp, texts_ties}, BTreeSet.{BTreeSet, contains, Updates}}
+use Rattle.sno_declarations.specs.{Prototypes.{are_different}, inner.Reading.{HasMet, Meets}}
 
 abbrev is_in : List ℕ → List (List ℕ) → Bool
 is_in name names = list_any (λ other. pointwise nat_eq other name) names

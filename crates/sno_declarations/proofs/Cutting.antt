@@ -1,11 +1,8 @@
 -- Texts cut into records.
 use Rattle.std.proofs.Common.{◌≡◌, ℕ, zero, suc, ◌-◌, ◌≤◌, Bool, true, false, List, [], ◌∷◌, length, map, take, drop, refl, sym, ap, ◌∙◌, arith, nat_le}
-use Rattle.std.specs.Prelude.{if◌then◌else◌, All}
-use Rattle.std.specs.List.{onto_first}
-use Rattle.std.proofs.lemmas.Bool.Decides.{nat_tests}
-use Rattle.std.proofs.lemmas.List.Elements.{All-nil, All-cons, All-head, All-tail}
-use Rattle.sno_declarations.specs.Formats.{RecordFormat, most_characters, pieces, laid_out}
-use Rattle.sno_declarations.specs.Laws.{RecordsFollow, RecordsFit}
+use Rattle.std.specs.{Prelude.{if◌then◌else◌, All}, List.{onto_first}}
+use Rattle.std.proofs.lemmas.{Bool.Decides.{nat_tests}, List.Elements.{All-nil, All-cons, All-head, All-tail}}
+use Rattle.sno_declarations.specs.{Formats.{RecordFormat, most_characters, pieces, laid_out}, Laws.{RecordsFollow, RecordsFit}}
 
 -- ONE PIECE AFTER ANOTHER
 

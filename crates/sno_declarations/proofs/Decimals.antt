@@ -1,15 +1,9 @@
 -- A number in decimal is no format, as no parenthesis stands before its digits.
 use Rattle.std.proofs.Common.{◌≡◌, ℕ, zero, suc, ℤ, pos, negsuc, Bool, true, false, ◌&&◌, ◌+◌, ◌/◌, ◌%◌, List, [], ◌∷◌, take, drop, Some, None, refl, sym, ap, ◌∙◌, arith, nat_eq, nat_lt}
-use Rattle.std.specs.Prelude.{codes, ◌==◌, if◌then◌else◌}
-use Rattle.std.specs.Fmt.{digit_glyph, digits_onto, digits, decimal, signed_decimal}
-use Rattle.std.specs.Cmp.Lexicographic.{pointwise}
-use Rattle.std.proofs.lemmas.Bool.Decides.{nat_tests}
-use Rattle.sno_value.specs.declared.value.Value.{Value}
-use Rattle.sno_value.specs.declared.value.Value.TheVariants.{Integer}
-use Rattle.sno_value.specs.Values.{text_of}
-use Rattle.sno_declarations.specs.Formats.{format_of}
-use Rattle.std.specs.Option.{option_and_then}
-use Rattle.sno_declarations.proofs.Shorthand.{format_without_blank, format_behind}
+use Rattle.std.specs.{Prelude.{codes, ◌==◌, if◌then◌else◌}, Fmt.{digit_glyph, digits_onto, digits, decimal, signed_decimal}}
+use Rattle.std.{specs.Cmp.Lexicographic.{pointwise}, proofs.lemmas.Bool.Decides.{nat_tests}, specs.Option.{option_and_then}}
+use Rattle.sno_value.specs.{declared.value.Value.{Value}, declared.value.Value.TheVariants.{Integer}, Values.{text_of}}
+use Rattle.sno_declarations.{specs.Formats.{format_of}, proofs.Shorthand.{format_without_blank, format_behind}}
 
 -- what begins with no parenthesis, if with anything
 abbrev begins : List ℕ → ℕ

@@ -1,15 +1,10 @@
 -- A function that was defined has variables of different names.
 use Rattle.std.proofs.Common.{◌≡◌, ℕ, Bool, true, false, ◌&&◌, List, Option, None, Some, refl, sym, Ok, Err}
-use Rattle.std.specs.Prelude.{ok_or, Result, if◌then◌else◌}
-use Rattle.std.specs.List.{list_all}
-use Rattle.std.specs.Option.{option_and_then}
+use Rattle.std.specs.{Prelude.{ok_or, Result, if◌then◌else◌}, List.{list_all}, Option.{option_and_then}}
 use Rattle.sno_text.specs.declared.fault.Fault.{Fault}
 use Rattle.sno_text.specs.declared.fault.Fault.TheVariants as fault
-use Rattle.sno_value.specs.declared.value.Value.{Value}
-use Rattle.sno_value.specs.Values.{text_of}
-use Rattle.sno_declarations.specs.Arguments.{go_on}
-use Rattle.sno_declarations.specs.declared.prototype.Prototype.{Prototype}
-use Rattle.sno_declarations.specs.declared.definition.Definition.{Definition}
+use Rattle.sno_value.specs.{declared.value.Value.{Value}, Values.{text_of}}
+use Rattle.sno_declarations.specs.{Arguments.{go_on}, declared.prototype.Prototype.{Prototype}, declared.definition.Definition.{Definition}}
 use Rattle.sno_declarations.specs.Prototypes.{is_identifier, trimmed, items, names_of, are_different, checked, cut_at, prototype_of}
 use Rattle.sno_declarations.specs.Definitions.{prototype_in, entry_in, definition_in}
 

@@ -1,9 +1,7 @@
 -- An identifier is a text of ASCII 32 to 126.
 use Rattle.std.proofs.Common.{◌≡◌, ℕ, Bool, true, false, ◌&&◌, List, [], ◌∷◌, refl, ap, ◌∙◌, arith}
-use Rattle.std.specs.List.{list_all}
-use Rattle.std.proofs.lemmas.Bool.Decides.{nat_tests}
-use Rattle.mon_text.specs.Characters.{is_letter, is_printable, is_identifier_character}
-use Rattle.mon_text.specs.Lines.{IsLine}
+use Rattle.std.{specs.List.{list_all}, proofs.lemmas.Bool.Decides.{nat_tests}}
+use Rattle.mon_text.specs.{Characters.{is_letter, is_printable, is_identifier_character}, Lines.{IsLine}}
 use Rattle.sno_declarations.specs.Prototypes.{is_identifier}
 
 letter : (c : ℕ) → is_letter c ≡ true → is_printable c ≡ true

@@ -1,16 +1,9 @@
 -- Items one after the other.
 use Rattle.std.proofs.Common.{◌≡◌, ℕ, ◌+◌, ◌≤◌, ◌<◌, Bool, true, false, cond, not, ◌&&◌, List, [], ◌∷◌, ◌++◌, length, map, take, drop, Option, None, Some, refl, sym, ap, ◌∙◌, arith, nat_lt, append-nil}
-use Rattle.std.specs.Prelude.{if◌then◌else◌, unwrap_or}
-use Rattle.std.specs.Borrow.{Bor}
-use Rattle.std.specs.Option.{option_map}
-use Rattle.std.specs.List.{list_all, slice_split, onto_first, position_or_len}
-use Rattle.std.proofs.lemmas.Bool.Decides.{nat_tests}
-use Rattle.std.proofs.lemmas.List.Folds.{list_all-append}
-use Rattle.std.proofs.lemmas.List.Splits.{slice_split-cons_no, slice_split_first}
-use Rattle.mon_text.specs.Lines.{is_blank_line}
-use Rattle.sno_declarations.specs.Prototypes.{is_identifier, trimmed, items, cut_at}
-use Rattle.sno_declarations.specs.inner.Reading.{told, listed}
-use Rattle.mon_text.specs.Characters.{is_comma}
+use Rattle.std.specs.{Prelude.{if◌then◌else◌, unwrap_or}, Borrow.{Bor}, Option.{option_map}, List.{list_all, slice_split, onto_first, position_or_len}}
+use Rattle.std.proofs.lemmas.{Bool.Decides.{nat_tests}, List.Folds.{list_all-append}, List.Splits.{slice_split-cons_no, slice_split_first}}
+use Rattle.mon_text.specs.{Lines.{is_blank_line}, Characters.{is_comma}}
+use Rattle.sno_declarations.specs.{Prototypes.{is_identifier, trimmed, items, cut_at}, inner.Reading.{told, listed}}
 
 -- THE FIRST ITEM
 

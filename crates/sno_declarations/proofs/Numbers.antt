@@ -1,12 +1,8 @@
 -- A number of digits only grows.
 use Rattle.std.proofs.Common.{◌≡◌, ℕ, suc, ◌+◌, ◌-◌, ◌*◌, ◌<◌, ◌≤◌, Bool, true, false, ◌&&◌, List, [], ◌∷◌, drop, get_or, drop-cons, length, refl, sym, ap, ◌∙◌, arith, nat_le, None, Some}
-use Rattle.std.specs.Prelude.{if◌then◌else◌}
-use Rattle.std.specs.List.{list_all}
-use Rattle.std.proofs.lemmas.Bool.Decides.{nat_tests}
-use Rattle.mon_text.specs.Characters.{is_digit}
-use Rattle.mon_text.specs.Counts.{value_of}
+use Rattle.std.{specs.Prelude.{if◌then◌else◌}, specs.List.{list_all}, proofs.lemmas.Bool.Decides.{nat_tests}}
+use Rattle.mon_text.{specs.Characters.{is_digit}, specs.Counts.{value_of}, proofs.Digits.{read_on}}
 use Rattle.sno_declarations.specs.Formats.{number_to}
-use Rattle.mon_text.proofs.Digits.{read_on}
 
 grows : (n : ℕ) (digits : List ℕ) → n ≤ read_on n digits
 grows n [] = omega arith

@@ -1,6 +1,5 @@
 -- Parts of the definitions by names of their own.
-use Rattle.std.specs.Prelude.{ℕ, true, false, List, Option, codes}
-use Rattle.std.specs.Option.{option_and_then, option_map_or}
+use Rattle.std.specs.{Prelude.{ℕ, true, false, List, Option, codes}, Option.{option_and_then, option_map_or}}
 use Rattle.sno_declarations.specs.Formats.{RecordFormat, behind, with_characters}
 
 abbrev pub format_without_blank : Option (List ℕ) → Option RecordFormat

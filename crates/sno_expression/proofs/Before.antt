@@ -1,12 +1,9 @@
 -- What a mark writes before an operand, as the spelling says it and as the reader does.
 use Rattle.std.proofs.Common.{◌≡◌, refl, ap, ◌∙◌}
-use Rattle.std.specs.Prelude.{Option, Some, None}
-use Rattle.std.specs.Option.{option_map}
+use Rattle.std.specs.{Prelude.{Option, Some, None}, Option.{option_map}}
 use Rattle.sno_lexer.specs.declared.token.Mark.{Mark}
 use Rattle.sno_lexer.specs.declared.token.Mark.TheVariants as mark
-use Rattle.sno_expression.specs.declared.tree.UnaryOperator.{UnaryOperator}
-use Rattle.sno_expression.specs.declared.tree.Prefix.{Prefix}
-use Rattle.sno_expression.specs.declared.tree.Prefix.TheVariants.{OfOperand}
+use Rattle.sno_expression.specs.declared.tree.{UnaryOperator.{UnaryOperator}, Prefix.{Prefix}, Prefix.TheVariants.{OfOperand}}
 use Rattle.sno_expression.specs.Marks.{unary_of, prefix_of}
 
 pub as_prefix : (k : Mark) (s : UnaryOperator) → unary_of k ≡ Some s → prefix_of k ≡ Some (OfOperand s)

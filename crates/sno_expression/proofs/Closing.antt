@@ -3,13 +3,9 @@ use Rattle.std.proofs.Common.{◌≡◌, ℕ, List, [], ◌∷◌, ◌++◌, ref
 use Rattle.std.specs.Prelude.{Bool, true, false, Some, ◌&&◌, if◌then◌else◌}
 use Rattle.sno_lexer.specs.declared.token.Token.{Token}
 use Rattle.sno_lexer.specs.declared.token.TokenKind.TheVariants as token
-use Rattle.sno_expression.specs.Marks.{needs_variable, operand_is_variable}
-use Rattle.sno_expression.specs.Expressions.{Expression, Identifier, Group, Call, TableItem, Argument}
-use Rattle.sno_expression.specs.Spelling.{spaced}
+use Rattle.sno_expression.specs.{Marks.{needs_variable, operand_is_variable}, Expressions.{Expression, Identifier, Group, Call, TableItem, Argument}}
+use Rattle.sno_expression.{specs.Spelling.{spaced}, specs.inner.Telling.{Tells, with_lack, told}, proofs.Loop.{with_none}, proofs.Feeding.{no_lack}}
 use Rattle.sno_expression.specs.inner.Reading.{Hole, Begin, After, Under, fill, Stack, Bottom, InGroup, InCall, InItem, Due, Prefixed, Named, Whole, State, At, with_prefix, variable_due}
-use Rattle.sno_expression.specs.inner.Telling.{Tells, with_lack, told}
-use Rattle.sno_expression.proofs.Loop.{with_none}
-use Rattle.sno_expression.proofs.Feeding.{no_lack}
 
 abbrev name : Bool → Token
 name b = spaced b false (token.Identifier [])

@@ -5,9 +5,7 @@ use Rattle.sno_lexer.specs.declared.token.Mark.TheVariants as mark
 use Rattle.sno_lexer.specs.declared.token.TokenKind.TheVariants as token
 use Rattle.sno_expression.specs.declared.tree.BinaryOperator.TheVariants as operator
 use Rattle.sno_expression.specs.declared.tree.UnaryOperator.TheVariants as unary
-use Rattle.sno_expression.specs.Expressions.{Identifier, Group, Call, Unary, Binary, NoArguments, Omitted, Argument}
-use Rattle.sno_expression.specs.Lacking.{lacking}
-use Rattle.sno_expression.specs.Spelling.{spaced}
+use Rattle.sno_expression.specs.{Expressions.{Identifier, Group, Call, Unary, Binary, NoArguments, Omitted, Argument}, Lacking.{lacking}, Spelling.{spaced}}
 use Rattle.sno_expression.specs.inner.Telling.{Tells, telling}
 
 abbrev A : List ℕ

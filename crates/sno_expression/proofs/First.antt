@@ -1,22 +1,14 @@
 -- The first operand, where one token tells it: what is told of it alone, and where the reading goes on behind it.
 use Rattle.std.proofs.Common.{arith, ◌≡◌, ℕ, ◌+◌, zero, suc, ◌-◌, ◌<◌, ◌≤◌, take, drop, length, List, [], ◌∷◌, refl, sym, ap, ap₂, ◌∙◌, subst}
-use Rattle.std.proofs.lemmas.List.{length-drop, take_rest}
-use Rattle.std.specs.Prelude.{Bool, true, false, not, ◌&&◌, ◌||◌, Option, Some, None, if◌then◌else◌}
-use Rattle.sno_lexer.specs.declared.token.Token.{Token}
-use Rattle.sno_lexer.specs.declared.token.TokenKind.{TokenKind}
+use Rattle.std.{proofs.lemmas.List.{length-drop, take_rest}, specs.Prelude.{Bool, true, false, not, ◌&&◌, ◌||◌, Option, Some, None, if◌then◌else◌}}
+use Rattle.sno_lexer.specs.declared.token.{Token.{Token}, TokenKind.{TokenKind}, Mark.{Mark}}
 use Rattle.sno_lexer.specs.declared.token.TokenKind.TheVariants as token
-use Rattle.sno_expression.specs.declared.tree.BinaryOperator.{BinaryOperator}
-use Rattle.sno_expression.specs.declared.tree.BinaryOperator.TheVariants.{Concatenation}
-use Rattle.sno_expression.specs.declared.tree.Expression.{Expression as AnExpression}
-use Rattle.sno_expression.specs.Marks.{operator_of, needs_variable}
-use Rattle.sno_expression.specs.Spelling.{spaced}
-use Rattle.sno_lexer.specs.declared.token.Mark.{Mark}
-use Rattle.sno_expression.specs.Expressions.{Expression, Identifier, Constant}
-use Rattle.sno_expression.specs.Abstraction.{expression_of}
-use Rattle.sno_expression.specs.inner.Reading.{State, At, Stack, Bottom, Hole, Begin, After, Named, Whole, Due, push, fill, joined, begin, first, after, opened, read, ended, result, parens, inner_of, stops, opens_bracket, variable_due, start}
+use Rattle.sno_expression.specs.declared.tree.BinaryOperator.{BinaryOperator, TheVariants.{Concatenation}}
+use Rattle.sno_expression.specs.{declared.tree.Expression.{Expression as AnExpression}, Marks.{operator_of, needs_variable}, Spelling.{spaced}}
+use Rattle.sno_expression.{specs.Expressions.{Expression, Identifier, Constant}, specs.Abstraction.{expression_of}, proofs.Loop.{with_none}}
 use Rattle.sno_expression.specs.inner.Telling.{begins_variable, follows, lack_at, fits_at, Told, Tells, then_tell, told, telling}
 use Rattle.sno_expression.specs.inner.First.{is_apart, plain, Joint, Joins, operand_behind, marked_operand, joined_by, next_operand}
-use Rattle.sno_expression.proofs.Loop.{with_none}
+use Rattle.sno_expression.specs.inner.Reading.{State, At, Stack, Bottom, Hole, Begin, After, Named, Whole, Due, push, fill, joined, begin, first, after, opened, read, ended, result, parens, inner_of, stops, opens_bracket, variable_due, start}
 
 touches_none : (b : Bool) (k : TokenKind) → opens_bracket false k ≡ false → opens_bracket b k ≡ false
 touches_none b token.Open e = cc

@@ -1,12 +1,8 @@
 -- The laws of the grammar.
 use Rattle.std.proofs.Common.{length, []}
 use Rattle.std.specs.Prelude.{false}
-use Rattle.sno_expression.specs.Laws.{OneExpression}
-use Rattle.sno_expression.specs.inner.Laws.{ReadsExactly}
-use Rattle.sno_expression.specs.Lacking.{lacking}
-use Rattle.sno_expression.proofs.Lacks.{lacks}
-use Rattle.sno_expression.proofs.Feeding.{complete}
-use Rattle.sno_expression.proofs.Sound.{sound}
+use Rattle.sno_expression.specs.{Laws.{OneExpression}, inner.Laws.{ReadsExactly}, Lacking.{lacking}}
+use Rattle.sno_expression.proofs.{Lacks.{lacks}, Feeding.{complete}, Sound.{sound}}
 
 -- two trees that spell the same tokens are one
 pub one_expression : OneExpression

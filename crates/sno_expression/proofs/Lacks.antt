@@ -1,11 +1,8 @@
 -- The leftmost of the places that are marked, told by the number of tokens from it on.
 use Rattle.std.proofs.Common.{arith, ◌≡◌, ℕ, zero, suc, ◌+◌, ◌<◌, ◌≤◌, length, List, [], ◌∷◌, ◌++◌, refl, sym, ap, ◌∙◌}
-use Rattle.std.specs.Prelude.{Bool, true, false, nat_le, get_or, if◌then◌else◌}
-use Rattle.std.specs.List.{list_any}
-use Rattle.std.proofs.lemmas.Bool.Decides.{nat_tests}
-use Rattle.std.proofs.lemmas.List.{length-append}
-use Rattle.sno_expression.specs.inner.Telling.{most}
-use Rattle.sno_expression.proofs.Loop.{none_most, most_none}
+use Rattle.std.specs.{Prelude.{Bool, true, false, nat_le, get_or, if◌then◌else◌}, List.{list_any}}
+use Rattle.std.proofs.lemmas.{Bool.Decides.{nat_tests}, List.{length-append}}
+use Rattle.sno_expression.{specs.inner.Telling.{most}, proofs.Loop.{none_most, most_none}}
 
 -- n tokens stand behind those that are marked or not
 abbrev pub lacks : List Bool → ℕ → ℕ

@@ -1,12 +1,9 @@
 -- The loop over the tokens, one step and the ends.
 use Rattle.std.proofs.Common.{arith, ◌≡◌, ℕ, zero, suc, ◌+◌, ◌-◌, ◌<◌, length, List, [], ◌∷◌, drop, get_or, refl, sym, ap, ◌∙◌, add-one, drop-cons}
-use Rattle.std.specs.Prelude.{Bool, true, false, nat_le, Option, Some, None, if◌then◌else◌}
-use Rattle.std.proofs.lemmas.Bool.Decides.{nat_tests}
+use Rattle.std.{specs.Prelude.{Bool, true, false, nat_le, Option, Some, None, if◌then◌else◌}, proofs.lemmas.Bool.Decides.{nat_tests}}
 use Rattle.sno_lexer.specs.declared.token.Token.{Token}
-use Rattle.sno_expression.specs.Expressions.{Expression}
-use Rattle.sno_expression.specs.inner.Reading.{State, read, result}
+use Rattle.sno_expression.specs.{Expressions.{Expression}, inner.Reading.{State, read, result}, inner.Told.{Next, End, stepped}}
 use Rattle.sno_expression.specs.inner.Telling.{most, lack_at, fits_at, Told, Tells, with_lack, then_tell, told}
-use Rattle.sno_expression.specs.inner.Told.{Next, End, stepped}
 
 pub more : (ts : List Token) (i : ℕ) (t : Token) → i < length ts → t ≡ get_or ts i t → drop i ts ≡ t ∷ drop (i + 1) ts
 more ts i t lt e = rw add-one (drop-cons ts i t lt ∙ ap (λ (u : Token). u ∷ drop (suc i) ts) (sym e))

@@ -1,21 +1,16 @@
 -- What fits is what is taken with some blanks.
 use Rattle.std.proofs.Common.{◌≡◌, refl, ◌∙◌}
 use Rattle.std.specs.Prelude.{Bool, true, false, Option, Some, None, is_some, ◌||◌, ◌&&◌, not, if◌then◌else◌}
-use Rattle.sno_lexer.specs.declared.token.Mark.{Mark}
+use Rattle.sno_lexer.specs.declared.token.{Mark.{Mark}, Part.{Part}, TokenKind.{TokenKind}}
 use Rattle.sno_lexer.specs.declared.token.Mark.TheVariants as mark
-use Rattle.sno_lexer.specs.declared.token.Part.{Part}
-use Rattle.sno_lexer.specs.declared.token.TokenKind.{TokenKind}
 use Rattle.sno_lexer.specs.declared.token.TokenKind.TheVariants as token
 use Rattle.sno_expression.specs.declared.tree.BinaryOperator.TheVariants as operator
 use Rattle.sno_expression.specs.declared.tree.UnaryOperator.TheVariants as unary
 use Rattle.sno_expression.specs.declared.tree.IdentifierPrefix.TheVariants as prefix
-use Rattle.sno_expression.specs.declared.tree.Prefix.{Prefix}
-use Rattle.sno_expression.specs.declared.tree.Prefix.TheVariants.{OfOperand, OfIdentifier}
-use Rattle.sno_expression.specs.Marks.{prefix_of}
-use Rattle.sno_expression.specs.Expressions.{Expression, Identifier, Constant, Group, Call, Omitted, Argument, TableItem}
-use Rattle.sno_expression.specs.Spelling.{spaced}
-use Rattle.sno_expression.specs.inner.Reading.{Hole, Begin, After, Under, fill, Stack, Bottom, InGroup, InCall, InItem, Due, Prefixed, Named, Whole, State, At, with_prefix, prefixed, begin, first, go_on, closed, after, read, inner_of, parens, opens_bracket, opened, start}
+use Rattle.sno_expression.specs.{declared.tree.Prefix.{Prefix}, declared.tree.Prefix.TheVariants.{OfOperand, OfIdentifier}, Marks.{prefix_of}}
+use Rattle.sno_expression.specs.{Expressions.{Expression, Identifier, Constant, Group, Call, Omitted, Argument, TableItem}, Spelling.{spaced}}
 use Rattle.sno_expression.specs.inner.Telling.{begins, ends_argument, follows, fits_at}
+use Rattle.sno_expression.specs.inner.Reading.{Hole, Begin, After, Under, fill, Stack, Bottom, InGroup, InCall, InItem, Due, Prefixed, Named, Whole, State, At, with_prefix, prefixed, begin, first, go_on, closed, after, read, inner_of, parens, opens_bracket, opened, start}
 
 or_left : (x y : Bool) → x ≡ true → (x || y) ≡ true
 or_left true y e = refl

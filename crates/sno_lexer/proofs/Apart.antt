@@ -1,12 +1,9 @@
 -- What tokens and texts are told apart by.
 use Rattle.std.specs.Prelude.{◌≡◌, ℕ, Bool, true, false, List, [], ◌∷◌, Option, Some, None, Result, Ok, Err, MatchOption}
 use Rattle.mon_text.specs.Characters.{is_blank}
-use Rattle.sno_lexer.specs.declared.token.TokenKind.{TokenKind}
+use Rattle.sno_lexer.specs.{declared.token.TokenKind.{TokenKind}, declared.fault.LexFault.{LexFault}, Listed.{TokenList}, Following.{IsFault, TellText}}
 use Rattle.sno_lexer.specs.declared.token.TokenKind.TheVariants as kind
 use Rattle.sno_lexer.specs.declared.token.Part.TheVariants as part
-use Rattle.sno_lexer.specs.declared.fault.LexFault.{LexFault}
-use Rattle.sno_lexer.specs.Listed.{TokenList}
-use Rattle.sno_lexer.specs.Following.{IsFault, TellText}
 
 abbrev pub begins_goto : TokenKind → Bool
 begins_goto (kind.Part part.Colon) = true

@@ -1,15 +1,10 @@
 -- What identifiers, integers and signs hold is a line.
 use Rattle.std.proofs.Common.{arith, ◌≡◌, ℕ, List, [], ◌∷◌, refl}
-use Rattle.std.specs.Prelude.{Bool, true, false, ◌&&◌}
-use Rattle.std.specs.List.{list_all}
-use Rattle.std.proofs.lemmas.Bool.Decides.{nat_tests}
-use Rattle.mon_text.specs.Characters.{is_digit, is_identifier_character, is_printable}
-use Rattle.mon_text.specs.Lines.{is_line}
-use Rattle.sno_lexer.specs.declared.character.Run.TheVariants.{InIdentifier, InInteger}
-use Rattle.sno_lexer.specs.declared.begin.Class.{Class}
-use Rattle.sno_lexer.specs.declared.begin.Class.TheVariants.{Identifier, Label, Integer, Literal, Operator, Open, Close, Comma, Equals, Colon, On, OpenAngle, CloseAngle}
+use Rattle.std.{specs.Prelude.{Bool, true, false, ◌&&◌}, specs.List.{list_all}, proofs.lemmas.Bool.Decides.{nat_tests}}
+use Rattle.mon_text.specs.{Characters.{is_digit, is_identifier_character, is_printable}, Lines.{is_line}}
+use Rattle.sno_lexer.{specs.declared.character.Run.TheVariants.{InIdentifier, InInteger}, specs.declared.begin.Class.{Class}, proofs.Words.{all_of_run}}
 use Rattle.sno_lexer.specs.inner.Classes.{goes_on, holds_any, run_in, text_of}
-use Rattle.sno_lexer.proofs.Words.{all_of_run}
+use Rattle.sno_lexer.specs.declared.begin.Class.TheVariants.{Identifier, Label, Integer, Literal, Operator, Open, Close, Comma, Equals, Colon, On, OpenAngle, CloseAngle}
 
 all_printable : (p : ℕ → Bool) → ((c : ℕ) → p c ≡ true → is_printable c ≡ true) → (text : List ℕ) → list_all p text ≡ true → is_line text ≡ true
 all_printable p each [] e = refl

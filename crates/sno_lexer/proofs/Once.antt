@@ -1,28 +1,15 @@
 -- Whatever tells a text is what is read of it.
 use Rattle.std.proofs.Common.{arith, ◌≡◌, ℕ, ◌+◌, ◌-◌, ◌<◌, List, [], ◌∷◌, ◌++◌, length, drop, refl, sym, ap, ◌∙◌, subst}
-use Rattle.std.specs.Prelude.{Bool, true, false, ◌&&◌, ◌||◌, ◌==◌, nat_lt, Option, Some, None, Result, Ok, Err, if◌then◌else◌}
-use Rattle.std.specs.List.{list_all}
+use Rattle.std.specs.{Prelude.{Bool, true, false, ◌&&◌, ◌||◌, ◌==◌, nat_lt, Option, Some, None, Result, Ok, Err, if◌then◌else◌}, List.{list_all}}
 use Rattle.std.proofs.lemmas.Bool.Decides.{nat_tests}
 use mathlib.Core.Logic.{inl, inr}
 use Rattle.mon_text.specs.Characters.{is_blank}
-use Rattle.sno_lexer.specs.declared.token.Token.{Token}
-use Rattle.sno_lexer.specs.declared.token.TokenKind.{TokenKind}
-use Rattle.sno_lexer.specs.declared.begin.Class.{Class}
-use Rattle.sno_lexer.specs.declared.begin.Context.{Context}
-use Rattle.sno_lexer.specs.declared.lexing.Action.TheVariants.{Pass}
-use Rattle.sno_lexer.specs.declared.fault.FaultKind.{FaultKind}
-use Rattle.sno_lexer.specs.declared.fault.LexFault.{LexFault}
-use Rattle.sno_lexer.specs.inner.Classes.{found, further, kind_of, text_of, token_of}
-use Rattle.sno_lexer.specs.inner.Lexing.{after, on_action, stage, start, taken, with_first}
-use Rattle.sno_lexer.specs.Listed.{TokenList}
-use Rattle.sno_lexer.specs.Following.{IsFault, Stands, TellText, fault_of}
-use Rattle.sno_lexer.proofs.Apart.{IsEnd, is_apart, is_some_text}
-use Rattle.sno_lexer.specs.Laws.{NothingElseTellsIt}
-use Rattle.sno_lexer.proofs.Contexts.{Knows, at_start, knows_after}
-use Rattle.sno_lexer.proofs.Faults.{good_or}
-use Rattle.sno_lexer.proofs.Loop.{on_turn}
-use Rattle.sno_lexer.proofs.Reading.{IsFound, foreign, has_found, not_closed}
-use Rattle.sno_lexer.proofs.Telling.{behind_is, or_false, or_true}
+use Rattle.sno_lexer.specs.declared.{token.Token.{Token}, token.TokenKind.{TokenKind}, begin.Class.{Class}, begin.Context.{Context}}
+use Rattle.sno_lexer.specs.declared.{lexing.Action.TheVariants.{Pass}, fault.FaultKind.{FaultKind}, fault.LexFault.{LexFault}}
+use Rattle.sno_lexer.specs.inner.{Classes.{found, further, kind_of, text_of, token_of}, Lexing.{after, on_action, stage, start, taken, with_first}}
+use Rattle.sno_lexer.specs.{Listed.{TokenList}, Following.{IsFault, Stands, TellText, fault_of}, Laws.{NothingElseTellsIt}}
+use Rattle.sno_lexer.proofs.{Apart.{IsEnd, is_apart, is_some_text}, Contexts.{Knows, at_start, knows_after}, Faults.{good_or}, Loop.{on_turn}}
+use Rattle.sno_lexer.proofs.{Reading.{IsFound, foreign, has_found, not_closed}, Telling.{behind_is, or_false, or_true}}
 
 -- ONE STEP
 

@@ -1,16 +1,9 @@
 -- Where tokens and faults stand: within the text.
 use Rattle.std.proofs.Common.{arith, ◌≡◌, ℕ, ◌+◌, ◌≤◌, ◌<◌, List, [], ◌∷◌, length, drop, length-drop, sym, subst}
-use Rattle.std.specs.Prelude.{Result, Ok, Err}
-use Rattle.std.proofs.lemmas.List.Elements.{All-nil, All-cons}
-use Rattle.sno_lexer.specs.declared.token.Token.{Token}
-use Rattle.sno_lexer.specs.declared.begin.Context.{Context}
-use Rattle.sno_lexer.specs.declared.lexing.Action.{Action}
-use Rattle.sno_lexer.specs.declared.lexing.Action.TheVariants.{Pass, Take, Refuse}
-use Rattle.sno_lexer.specs.declared.fault.LexFault.{LexFault}
-use Rattle.sno_lexer.specs.Listed.{TokenList, StandsBefore}
+use Rattle.std.{specs.Prelude.{Result, Ok, Err}, proofs.lemmas.List.Elements.{All-nil, All-cons}}
+use Rattle.sno_lexer.specs.declared.{token.Token.{Token}, begin.Context.{Context}, lexing.Action.{Action}, fault.LexFault.{LexFault}}
+use Rattle.sno_lexer.specs.{declared.lexing.Action.TheVariants.{Pass, Take, Refuse}, Listed.{TokenList, StandsBefore}, Lexed.{lexed}, inner.Classes.{token_of}}
 use Rattle.sno_lexer.specs.inner.Lexing.{after, on_action, stage, start, step, with_first}
-use Rattle.sno_lexer.specs.Lexed.{lexed}
-use Rattle.sno_lexer.specs.inner.Classes.{token_of}
 
 with_first_stands : (token : Token) (at end : ℕ) (r : Result TokenList LexFault) → at < end → StandsBefore end r → StandsBefore end (with_first token at r)
 with_first_stands token at end (Ok list) lt h = All-cons (λ (x : ℕ). x < end) at list.offsets lt h

@@ -1,10 +1,7 @@
 -- Where runs of characters end, and the values of digits.
 use Rattle.std.proofs.Common.{arith, ◌≡◌, ℕ, ◌+◌, ◌-◌, ◌*◌, ◌≤◌, ◌<◌, List, [], ◌∷◌, length, refl, sym, drop, get_or, add-one, drop-cons, ap, ◌∙◌}
-use Rattle.std.specs.Prelude.{Bool, true, false, Option, Some, None, ℤ, cond, nat_lt, position, if◌then◌else◌}
-use Rattle.std.specs.Option.{unwrap_or}
-use Rattle.std.specs.List.{position_or_len}
-use Rattle.std.proofs.lemmas.List.Sums.{prefix_len-le-length}
-use Rattle.std.proofs.lemmas.Bool.Decides.{nat_tests}
+use Rattle.std.specs.{Prelude.{Bool, true, false, Option, Some, None, ℤ, cond, nat_lt, position, if◌then◌else◌}, Option.{unwrap_or}, List.{position_or_len}}
+use Rattle.std.proofs.lemmas.{List.Sums.{prefix_len-le-length}, Bool.Decides.{nat_tests}}
 use Rattle.mon_text.proofs.Digits.{read_on}
 
 at_or : (n m : ℕ) (b : Bool) → nat_lt n m ≡ b → n ≤ m → unwrap_or (cond b (Some n) None) m ≡ n

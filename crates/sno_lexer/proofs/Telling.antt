@@ -1,27 +1,13 @@
 -- The tokens of a text tell it, to its end or to its fault.
 use Rattle.std.proofs.Common.{arith, ◌≡◌, ℕ, zero, suc, ◌+◌, ◌-◌, ◌≤◌, ◌<◌, List, [], ◌∷◌, ◌++◌, length, take, drop, refl, sym, ap, ◌∙◌, subst}
-use Rattle.std.specs.Prelude.{Bool, true, false, ◌||◌, ◌==◌, nat_lt, Option, Some, None, Result, Ok, Err, slice_get, if◌then◌else◌}
-use Rattle.std.specs.List.{list_all}
-use Rattle.std.proofs.Math.Seq.{drop-nil}
-use Rattle.std.proofs.lemmas.List.{take-append-drop, length-take-le}
-use Rattle.std.proofs.lemmas.Bool.Decides.{nat_tests}
+use Rattle.std.specs.{Prelude.{Bool, true, false, ◌||◌, ◌==◌, nat_lt, Option, Some, None, Result, Ok, Err, slice_get, if◌then◌else◌}, List.{list_all}}
+use Rattle.std.proofs.{Math.Seq.{drop-nil}, lemmas.List.{take-append-drop, length-take-le}, lemmas.Bool.Decides.{nat_tests}}
 use Rattle.mon_text.specs.Characters.{is_blank}
-use Rattle.sno_lexer.specs.declared.token.Token.{Token}
-use Rattle.sno_lexer.specs.declared.token.TokenKind.{TokenKind}
-use Rattle.sno_lexer.specs.declared.begin.Class.{Class}
-use Rattle.sno_lexer.specs.declared.begin.Context.{Context}
-use Rattle.sno_lexer.specs.declared.lexing.Action.TheVariants.{Pass}
-use Rattle.sno_lexer.specs.declared.fault.FaultKind.{FaultKind}
-use Rattle.sno_lexer.specs.declared.fault.LexFault.{LexFault}
-use Rattle.sno_lexer.specs.inner.Classes.{found, further, is_blank_or_end, kind_of, text_of, token_of}
-use Rattle.sno_lexer.specs.inner.Lexing.{after, on_action, stage, start, taken, with_first}
-use Rattle.sno_lexer.specs.Lexed.{lexed}
-use Rattle.sno_lexer.specs.Listed.{TokenList}
-use Rattle.sno_lexer.specs.Following.{TellText, IsLexed}
-use Rattle.sno_lexer.proofs.Apart.{Told, is_apart}
-use Rattle.sno_lexer.specs.Laws.{TokensTellTheText}
-use Rattle.sno_lexer.proofs.Contexts.{Knows, at_start, knows_after}
-use Rattle.sno_lexer.proofs.Faults.{IsTaken, found_refused, found_taken}
+use Rattle.sno_lexer.specs.declared.{token.Token.{Token}, token.TokenKind.{TokenKind}, begin.Class.{Class}, begin.Context.{Context}}
+use Rattle.sno_lexer.specs.{declared.lexing.Action.TheVariants.{Pass}, declared.fault.FaultKind.{FaultKind}, declared.fault.LexFault.{LexFault}, Lexed.{lexed}}
+use Rattle.sno_lexer.specs.{inner.Classes.{found, further, is_blank_or_end, kind_of, text_of, token_of}, Listed.{TokenList}, Following.{TellText, IsLexed}}
+use Rattle.sno_lexer.specs.{inner.Lexing.{after, on_action, stage, start, taken, with_first}, Laws.{TokensTellTheText}}
+use Rattle.sno_lexer.proofs.{Apart.{Told, is_apart}, Contexts.{Knows, at_start, knows_after}, Faults.{IsTaken, found_refused, found_taken}}
 
 -- ONE TOKEN
 

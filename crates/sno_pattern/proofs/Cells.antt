@@ -1,14 +1,9 @@
 -- Goals and choices in memory: what is put on them and cut off.
 use Rattle.std.proofs.Common.{◌≡◌, ◌≢◌, ℕ, ◌+◌, ◌-◌, ◌≤◌, List, [], ◌∷◌, ◌++◌, length, Bool, refl, sym, ap, ◌∙◌, subst, arith, get_or}
-use Rattle.std.specs.Prelude.{take, drop, map, reverse, if◌then◌else◌}
+use Rattle.std.{specs.Prelude.{take, drop, map, reverse, if◌then◌else◌}, proofs.lemmas.Bool.{eq-eqb, ne_eqb}}
 use Rattle.std.proofs.lemmas.List.{reverse-append, take-append-drop, take-append-le, take_more, length-append, length-reverse, length-take-le}
-use Rattle.std.proofs.lemmas.Bool.{eq-eqb, ne_eqb}
-use Rattle.sno_pattern.specs.declared.trail.Cell.{Cell}
-use Rattle.sno_pattern.specs.declared.trail.Open.{Open}
-use Rattle.sno_pattern.specs.declared.trail.Waiting.{Waiting}
-use Rattle.sno_pattern.specs.Steps.{Goal}
-use Rattle.sno_pattern.specs.inner.Stack.{goal_of, trial_of, Choice, Ahead}
-use Rattle.sno_pattern.specs.inner.Cells.{goals_at, choice_of, ahead_of, AreBehind, AreKept, IsTrail}
+use Rattle.sno_pattern.specs.{declared.trail.Cell.{Cell}, declared.trail.Open.{Open}, declared.trail.Waiting.{Waiting}, Steps.{Goal}}
+use Rattle.sno_pattern.specs.inner.{Stack.{goal_of, trial_of, Choice, Ahead}, Cells.{goals_at, choice_of, ahead_of, AreBehind, AreKept, IsTrail}}
 
 -- the goal that stands last
 pub own : (c : Cell) (older : List Cell) (k : ℕ) → k ≡ length (c ∷ older) → goals_at (c ∷ older) k ≡ goal_of c.goal ∷ goals_at older c.rest

@@ -1,19 +1,13 @@
 -- How many steps a match needs.
 use Rattle.std.specs.Prelude.{◌≡◌, ◌≢◌, ◌⊎◌, ℕ, zero, suc, ◌+◌, ◌-◌, ◌≤◌, List, [], ◌∷◌, ◌++◌, Bool, length, if◌then◌else◌}
 use Rattle.std.proofs.Common.{refl, sym, ap, ◌∙◌, subst, inl, inr, arith}
-use Rattle.interaction.specs.Interactions.{Interaction, Returns, Asks, ◌>>=◌}
-use Rattle.interaction.specs.Exchanges.{Exchange, IsTrace}
-use Rattle.interaction.specs.Endings.{EndsIn}
+use Rattle.interaction.specs.{Interactions.{Interaction, Returns, Asks, ◌>>=◌}, Exchanges.{Exchange, IsTrace}, Endings.{EndsIn}}
 use Rattle.interaction.proofs.Enough.{ends_in_then}
 use Rattle.sno_text.specs.Patterns.{Pattern}
-use Rattle.sno_pattern.specs.declared.ending.MatchEnd.{MatchEnd}
-use Rattle.sno_pattern.specs.declared.ending.MatchEnd.TheVariants.{Limit}
-use Rattle.sno_pattern.specs.Looks.{Look, Told, Fits}
-use Rattle.sno_pattern.specs.Steps.{Meet, End, Success, Failure, WholeFails, OutOfSteps, Fault, Trying, outcome, Finish, settle, from_starts, counted_match, match_of}
+use Rattle.sno_pattern.specs.{declared.ending.MatchEnd.{MatchEnd}, declared.ending.MatchEnd.TheVariants.{Limit}, Looks.{Look, Told, Fits}}
 use Rattle.sno_pattern.specs.Laws.{Needs, NeedsSteps, StepsAreExact}
-use Rattle.sno_pattern.proofs.Trying.{AtMost}
-use Rattle.sno_pattern.proofs.Table.{outcome_falls}
-use Rattle.sno_pattern.proofs.Exact.{Longer, outcome_longer}
+use Rattle.sno_pattern.proofs.{Trying.{AtMost}, Table.{outcome_falls}, Exact.{Longer, outcome_longer}}
+use Rattle.sno_pattern.specs.Steps.{Meet, End, Success, Failure, WholeFails, OutOfSteps, Fault, Trying, outcome, Finish, settle, from_starts, counted_match, match_of}
 
 abbrev Ending : Type 0
 Ending = Interaction Look Told Finish

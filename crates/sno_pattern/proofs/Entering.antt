@@ -1,19 +1,12 @@
 -- Patterns met without goals of their own in memory.
 use Rattle.std.proofs.Common.{◌≡◌, ◌≢◌, ℕ, zero, suc, ◌-◌, ◌<◌, ◌≤◌, List, ◌∷◌, length, refl, sym, ap, ◌∙◌, arith}
-use Rattle.sno_text.specs.Patterns.{Pattern}
+use Rattle.sno_text.specs.{Patterns.{Pattern}, declared.reach.Reach.TheVariants.{Here, Nowhere}, inner.Reaching.{reached}}
 use Rattle.sno_text.specs.Patterns as pattern
-use Rattle.sno_text.specs.declared.reach.Reach.TheVariants.{Here, Nowhere}
-use Rattle.sno_pattern.specs.declared.ending.Pending.{Pending}
-use Rattle.sno_pattern.specs.declared.trail.Waiting.{Waiting}
-use Rattle.sno_pattern.specs.declared.choice_points.Turn.TheVariants.{Stay}
-use Rattle.sno_pattern.specs.declared.choice_points.Ended.TheVariants as ended
-use Rattle.sno_text.specs.inner.Reaching.{reached}
+use Rattle.sno_pattern.specs.declared.{ending.Pending.{Pending}, trail.Waiting.{Waiting}, choice_points.Turn.TheVariants.{Stay}}
 use Rattle.sno_pattern.specs.Steps.{Goal, Meet, EndConditional, EndImmediate, OutOfSteps, Trying, on_failure, row, outcome}
 use Rattle.sno_pattern.specs.inner.Stack.{Choice, Ahead, Second, waiting_of, resume, AllWithin, Entering, Led}
-use Rattle.sno_pattern.proofs.Table.{takes_off, no_step_left}
-use Rattle.sno_pattern.proofs.Reaches.{row_here}
-use Rattle.sno_pattern.proofs.Missing.{missed_now}
-use Rattle.sno_pattern.proofs.Pushing.{choice, resume_last, out_of_steps}
+use Rattle.sno_pattern.proofs.{Table.{takes_off, no_step_left}, Reaches.{row_here}, Missing.{missed_now}, Pushing.{choice, resume_last, out_of_steps}}
+use Rattle.sno_pattern.specs.declared.choice_points.Ended.TheVariants as ended
 
 module _ (text : List ℕ) (c : ℕ) (w : List Pending) where
   -- where a pattern is missed at once, what is behind it does not matter

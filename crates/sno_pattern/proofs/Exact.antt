@@ -3,16 +3,11 @@ use Rattle.std.specs.Prelude.{◌≡◌, ◌⊎◌, ℕ, zero, suc, ◌+◌, ◌
 use Rattle.std.proofs.Common.{refl, sym, ap, subst, inl, inr, arith}
 use Rattle.std.specs.List.{starts_with, prefix_len, position_or_len, range_with_len}
 use Rattle.interaction.specs.Interactions.{Returns, Asks}
-use Rattle.sno_text.specs.Patterns.{Pattern}
+use Rattle.sno_text.specs.{Patterns.{Pattern}, Sets.{is_one_of}, Balance.{part, balanced_ends}}
 use Rattle.sno_text.specs.Patterns as pattern
-use Rattle.sno_pattern.specs.declared.ending.Pending.{Pending}
-use Rattle.sno_pattern.specs.Looks.{Told, Found, Given, Refused, Faulty}
-use Rattle.sno_text.specs.Sets.{is_one_of}
-use Rattle.sno_text.specs.Balance.{part, balanced_ends}
+use Rattle.sno_pattern.specs.{declared.ending.Pending.{Pending}, Looks.{Told, Found, Given, Refused, Faulty}, inner.Found.{with_found}}
+use Rattle.sno_pattern.proofs.{Trying.{after_end, LeavesAtMost, Falls, leaves_more, fails_falls}, Table.{row_falls, attempt_falls}}
 use Rattle.sno_pattern.specs.Steps.{Goal, Meet, More, EndConditional, EndImmediate, End, Success, Failure, WholeFails, OutOfSteps, Fault, Trying, Way, ends, on_failure, at_each, pattern_found, if_given, row, attempt, outcome}
-use Rattle.sno_pattern.specs.inner.Found.{with_found}
-use Rattle.sno_pattern.proofs.Trying.{after_end, LeavesAtMost, Falls, leaves_more, fails_falls}
-use Rattle.sno_pattern.proofs.Table.{row_falls, attempt_falls}
 use Rattle.mon_text.specs.Beginnings.{first_passes}
 
 -- t' is t with j + 1 steps more

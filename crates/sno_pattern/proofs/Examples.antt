@@ -1,12 +1,9 @@
 -- Matches worked by hand, each with as many steps as it needs, and with one fewer.
 use Rattle.std.proofs.Common.{◌≡◌, ℕ, List, [], ◌∷◌, true, false, refl}
-use Rattle.interaction.specs.Interactions.{Returns}
-use Rattle.interaction.specs.Exchanges.{Exchange, IsTrace}
+use Rattle.interaction.specs.{Interactions.{Returns}, Exchanges.{Exchange, IsTrace}}
 use Rattle.sno_text.specs.Patterns as pattern
-use Rattle.sno_pattern.specs.declared.ending.MatchEnd.TheVariants.{Matched, NoMatch, Limit}
-use Rattle.sno_pattern.specs.declared.host.Taken.TheVariants.{Part, Cursor}
-use Rattle.sno_pattern.specs.declared.host.Looked.TheVariants.{Text as LooksText}
-use Rattle.sno_pattern.specs.Looks.{Look, LookUp, Assign, Told, Found, Given, Fits}
+use Rattle.sno_pattern.specs.declared.{ending.MatchEnd.TheVariants.{Matched, NoMatch, Limit}, host.Taken.TheVariants.{Part, Cursor}}
+use Rattle.sno_pattern.specs.{declared.host.Looked.TheVariants.{Text as LooksText}, Looks.{Look, LookUp, Assign, Told, Found, Given, Fits}}
 use Rattle.sno_pattern.specs.Steps.{row, attempt, outcome, counted_match}
 
 -- 'B' in AB: a step at each of two starts

@@ -2,20 +2,15 @@
 use Rattle.std.specs.Prelude.{◌≡◌, ℕ, zero, suc, ◌+◌, ◌-◌, ◌<◌, ◌≤◌, List, [], ◌∷◌, ◌++◌, length, take, drop, Bool, true, false, cond, not, ◌&&◌, if◌then◌else◌, nat_eq, nat_le, nat_lt}
 use Rattle.std.proofs.Common.{refl, sym, ap, ◌∙◌, arith, length-take, length-drop}
 use Rattle.std.specs.List.{starts_with, flat_map, filter, prefix_len, position_or_len, range_with_len}
-use Rattle.std.proofs.lemmas.Grind.{flat_map-append}
-use Rattle.std.proofs.lemmas.List.{append-nil}
-use Rattle.std.proofs.lemmas.Bool.Decides.{nat_tests}
+use Rattle.std.proofs.lemmas.{Grind.{flat_map-append}, List.{append-nil}, Bool.Decides.{nat_tests}}
 use lib.Pointwise.{pointwise_long}
 use Rattle.interaction.specs.Interactions.{Returns, Asks}
-use Rattle.sno_text.specs.Patterns.{Pattern}
+use Rattle.sno_text.specs.{Patterns.{Pattern}, Sets.{is_one_of}, Balance.{part, in_pairs, balanced_ends}}
 use Rattle.sno_text.specs.Patterns as pattern
-use Rattle.sno_pattern.specs.declared.ending.Pending.{Pending}
-use Rattle.sno_text.specs.Sets.{is_one_of}
-use Rattle.sno_text.specs.Balance.{part, in_pairs, balanced_ends}
-use Rattle.sno_pattern.specs.Steps.{Goal, Meet, More, EndConditional, EndImmediate, End, Success, Failure, WholeFails, OutOfSteps, Fault, Trying, Way, ends, on_failure, at_each, row, attempt, outcome}
-use Rattle.sno_pattern.specs.Places.{IsSimple, ends_of_turns, one_end, ends_of, Finds, Comes}
-use Rattle.mon_text.specs.Beginnings.{first_passes}
+use Rattle.sno_pattern.specs.{declared.ending.Pending.{Pending}, Places.{IsSimple, ends_of_turns, one_end, ends_of, Finds, Comes}}
 use Rattle.sno_pattern.proofs.Trying.{after_end}
+use Rattle.sno_pattern.specs.Steps.{Goal, Meet, More, EndConditional, EndImmediate, End, Success, Failure, WholeFails, OutOfSteps, Fault, Trying, Way, ends, on_failure, at_each, row, attempt, outcome}
+use Rattle.mon_text.specs.Beginnings.{first_passes}
 
 -- each is at a cursor from c on, and within the text
 abbrev pub Between : ℕ → ℕ → List ℕ → Type 0

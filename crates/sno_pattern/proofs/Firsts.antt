@@ -1,15 +1,12 @@
 -- A whole match of a simple pattern, start by start; and that a match which was broken off goes on.
-use Rattle.std.specs.Prelude.{◌≡◌, ℕ, zero, suc, ◌+◌, ◌≤◌, List, [], ◌∷◌, length, Bool, true, false, Option, if◌then◌else◌}
-use Rattle.std.specs.List.{range_with_len}
+use Rattle.std.specs.{Prelude.{◌≡◌, ℕ, zero, suc, ◌+◌, ◌≤◌, List, [], ◌∷◌, length, Bool, true, false, Option, if◌then◌else◌}, List.{range_with_len}}
 use Rattle.std.proofs.Common.{refl, ap, arith}
 use Rattle.interaction.specs.Interactions.{Interaction, Returns, Asks, ◌>>=◌}
 use Rattle.sno_text.specs.Patterns.{Pattern}
 use Rattle.sno_pattern.specs.declared.ending.MatchEnd.TheVariants as end
-use Rattle.sno_pattern.specs.Looks.{Look, LookUp, Assign, Told, Refused, Fits}
+use Rattle.sno_pattern.specs.{Looks.{Look, LookUp, Assign, Told, Refused, Fits}, Places.{IsSimple, ends_of, Finds, Comes, place_from, first_place, IsAt}}
 use Rattle.sno_pattern.specs.Steps.{Meet, End, Success, Failure, WholeFails, OutOfSteps, Fault, Trying, outcome, Finish, settle, from_starts}
-use Rattle.sno_pattern.specs.Places.{IsSimple, ends_of, Finds, Comes, place_from, first_place, IsAt}
-use Rattle.sno_pattern.specs.Laws.{FirstMatch}
-use Rattle.sno_pattern.proofs.Finding.{first_end}
+use Rattle.sno_pattern.{specs.Laws.{FirstMatch}, proofs.Finding.{first_end}}
 
 -- it asks nothing, and ends at this place
 abbrev pub Arrives : Option (ℕ × ℕ) → Interaction Look Told Finish → Type 0

@@ -1,15 +1,9 @@
 -- Many cursors that are passed at once, since a text is missed where its first character does not stand.
 use Rattle.std.proofs.Common.{◌≡◌, ◌≢◌, ℕ, zero, suc, ◌+◌, ◌-◌, ◌<◌, ◌≤◌, false, List, [], ◌∷◌, length, drop, sym, ap, ◌∙◌, arith, get_or, drop-cons, add-one}
-use Rattle.std.specs.Prelude.{nat_eq, ◌&&◌}
-use Rattle.std.specs.List.{range_with_len, slice_index, starts_with}
-use Rattle.std.proofs.lemmas.Bool.{false_from_ne_true, eqb-true}
-use Rattle.sno_text.specs.Patterns.{Pattern}
+use Rattle.std.{specs.Prelude.{nat_eq, ◌&&◌}, specs.List.{range_with_len, slice_index, starts_with}, proofs.lemmas.Bool.{false_from_ne_true, eqb-true}}
+use Rattle.sno_text.specs.{Patterns.{Pattern}, inner.Reaching.{reached, here_if}, declared.reach.Reach.TheVariants.{Nowhere}}
 use Rattle.sno_text.specs.Patterns as pattern
-use Rattle.sno_text.specs.inner.Reaching.{reached, here_if}
-use Rattle.sno_text.specs.declared.reach.Reach.TheVariants.{Nowhere}
-use Rattle.sno_pattern.specs.declared.ending.Pending.{Pending}
-use Rattle.sno_pattern.specs.Steps.{Goal, Meet, at_each, outcome}
-use Rattle.sno_pattern.proofs.Pushing.{skip_one}
+use Rattle.sno_pattern.{specs.declared.ending.Pending.{Pending}, specs.Steps.{Goal, Meet, at_each, outcome}, proofs.Pushing.{skip_one}}
 
 -- a text is missed where another character stands than its first
 pub missed_by_first : (text s : List ℕ) (k : ℕ) → k < length text → 0 < length s → slice_index text k ≢ slice_index s 0 → reached text (pattern.Text s) k ≡ Nowhere

@@ -2,15 +2,11 @@
 use Rattle.std.specs.Prelude.{◌≡◌, ℕ, suc, ◌+◌, List, [], ◌∷◌, Some}
 use Rattle.std.proofs.Common.{ap, ◌∙◌}
 use Rattle.interaction.specs.Interactions.{◌>>=◌}
-use Rattle.sno_text.specs.Patterns.{Pattern}
+use Rattle.sno_text.specs.{Patterns.{Pattern}, declared.reach.Reach.TheVariants.{Nowhere}, inner.Reaching.{reached}}
 use Rattle.sno_text.specs.Patterns as pattern
-use Rattle.sno_text.specs.declared.reach.Reach.TheVariants.{Nowhere}
-use Rattle.sno_pattern.specs.declared.ending.Pending.{Pending}
-use Rattle.sno_text.specs.inner.Reaching.{reached}
+use Rattle.sno_pattern.specs.{declared.ending.Pending.{Pending}, inner.Meeting.{first_part}}
 use Rattle.sno_pattern.specs.Steps.{Goal, Meet, EndConditional, EndImmediate, Failure, ends, row, outcome, settle, from_starts}
-use Rattle.sno_pattern.specs.inner.Meeting.{first_part}
-use Rattle.sno_pattern.proofs.Table.{takes_off}
-use Rattle.sno_pattern.proofs.Reaches.{row_nowhere, missed}
+use Rattle.sno_pattern.proofs.{Table.{takes_off}, Reaches.{row_nowhere, missed}}
 
 module _ (text : List ℕ) (r : List Goal) (c : ℕ) (w : List Pending) (n : ℕ) where
   -- after a step the first part is met, with other goals behind it

@@ -1,16 +1,9 @@
 -- Parts of a pattern that are passed at once, one after the other.
 use Rattle.std.proofs.Common.{◌≡◌, ◌≢◌, ℕ, suc, ◌-◌, ◌<◌, List, ◌∷◌, [], ◌++◌, ap, refl, ◌∙◌, arith}
-use Rattle.sno_text.specs.Patterns.{Pattern}
+use Rattle.sno_text.specs.{Patterns.{Pattern}, declared.reach.Reach.TheVariants.{Here}, Balance.{part}, inner.Reaching.{reached}}
 use Rattle.sno_text.specs.Patterns as pattern
-use Rattle.sno_text.specs.declared.reach.Reach.TheVariants.{Here}
-use Rattle.sno_pattern.specs.declared.ending.Pending.{Pending}
-use Rattle.sno_text.specs.Balance.{part}
-use Rattle.sno_text.specs.inner.Reaching.{reached}
-use Rattle.sno_pattern.specs.Steps.{Goal, Meet, EndConditional, row, outcome}
-use Rattle.sno_pattern.proofs.Table.{takes_off}
-use Rattle.sno_pattern.proofs.Reaches.{row_here}
-use Rattle.sno_pattern.proofs.Entering.{cat_on, conditional_on}
-use Rattle.sno_pattern.proofs.Run.{pending}
+use Rattle.sno_pattern.specs.{declared.ending.Pending.{Pending}, Steps.{Goal, Meet, EndConditional, row, outcome}}
+use Rattle.sno_pattern.proofs.{Table.{takes_off}, Reaches.{row_here}, Entering.{cat_on, conditional_on}, Run.{pending}}
 
 module _ (text : List ℕ) (r : List Goal) (c : ℕ) (w : List Pending) (n : ℕ) where
   -- a goal is taken off by a step

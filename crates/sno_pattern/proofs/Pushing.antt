@@ -1,33 +1,17 @@
 -- How choices are left and taken, row by row of the table.
 use Rattle.std.proofs.Common.{◌≡◌, ◌≢◌, ℕ, suc, ◌+◌, ◌*◌, ◌-◌, ◌<◌, ◌≤◌, List, [], ◌∷◌, ◌++◌, length, true, false, refl, sym, ap, ◌∙◌, subst, arith, inl, inr}
-use Rattle.std.specs.List.{range_with_len}
-use Rattle.std.specs.Prelude.{nat_eq, Result, Ok, Err, IfOk}
+use Rattle.std.specs.{List.{range_with_len}, Prelude.{nat_eq, Result, Ok, Err, IfOk}, declared.rc.Rc.{Rc}, declared.alloc.Global.{Global}}
 use Rattle.std.proofs.lemmas.List.{map-append}
-use Rattle.sno_text.specs.declared.fault.Fault.{Fault as AFault}
-use Rattle.interaction.specs.Interactions.{Asks}
-use Rattle.interaction.specs.Holding.{RunsTo, StopsIn}
-use Rattle.interaction.proofs.Held.{cut_here}
-use Rattle.std.specs.declared.rc.Rc.{Rc}
-use Rattle.std.specs.declared.alloc.Global.{Global}
-use Rattle.sno_text.specs.declared.node.Node.{Node}
-use Rattle.sno_text.specs.Nodes.{pattern_of}
-use Rattle.sno_text.specs.Patterns.{Pattern}
+use Rattle.sno_text.specs.{declared.fault.Fault.{Fault as AFault}, declared.node.Node.{Node}, Nodes.{pattern_of}, Patterns.{Pattern}, inner.Reaching.{reached}}
+use Rattle.sno_text.specs.{Balance.{part, balanced_ends}, declared.reach.Reach.TheVariants.{Here, Nowhere}}
+use Rattle.interaction.{specs.Interactions.{Asks}, specs.Holding.{RunsTo, StopsIn}, proofs.Held.{cut_here}}
 use Rattle.sno_text.specs.Patterns as pattern
-use Rattle.sno_text.specs.Balance.{part, balanced_ends}
-use Rattle.sno_text.specs.inner.Reaching.{reached}
-use Rattle.sno_text.specs.declared.reach.Reach.TheVariants.{Here, Nowhere}
-use Rattle.sno_pattern.specs.declared.ending.Pending.{Pending}
-use Rattle.sno_pattern.specs.Looks.{Look, Told, Fits}
+use Rattle.sno_pattern.specs.{declared.ending.Pending.{Pending}, Looks.{Look, Told, Fits}, declared.trail.Waiting.{Waiting}, declared.choice_points.Turn.{Turn}}
+use Rattle.sno_pattern.specs.declared.{host.Taken.TheVariants.{Part, Cursor}, choice_points.Turn.TheVariants.{Go, Meet as MeetNow, Stay}}
+use Rattle.sno_pattern.proofs.{Trying.{IsLast, last_stays, then_fails}, Table.{takes_off, no_step_left}, Reaches.{row_nowhere, row_here, missed}}
 use Rattle.sno_pattern.specs.Steps.{Goal, Meet, More, EndConditional, EndImmediate, End, Failure, WholeFails, OutOfSteps, Fault, Trying, ends, on_failure, at_each, row, outcome}
-use Rattle.sno_pattern.specs.declared.trail.Waiting.{Waiting}
-use Rattle.sno_pattern.specs.declared.host.Taken.TheVariants.{Part, Cursor}
-use Rattle.sno_pattern.specs.declared.choice_points.Turn.{Turn}
-use Rattle.sno_pattern.specs.declared.choice_points.Turn.TheVariants.{Go, Meet as MeetNow, Stay}
 use Rattle.sno_pattern.specs.declared.choice_points.Ended.TheVariants as ended
 use Rattle.sno_pattern.specs.inner.Stack.{Choice, Trial, Second, Each, Balanced, Whole, Ahead, waiting_of, second, resume, rank, assigning, looking, AllWithin, Led, Moved}
-use Rattle.sno_pattern.proofs.Trying.{IsLast, last_stays, then_fails}
-use Rattle.sno_pattern.proofs.Table.{takes_off, no_step_left}
-use Rattle.sno_pattern.proofs.Reaches.{row_nowhere, row_here, missed}
 
 -- an end that is no failure takes no choice
 pub resume_last : (text : List ℕ) (xs : List Choice) (e : End) (n : ℕ) → IsLast e → resume text xs (ends e n) ≡ ends e n

@@ -1,15 +1,11 @@
 -- The rows that go on at one cursor or fail.
 use Rattle.std.specs.Prelude.{◌≡◌, ℕ, ◌+◌, ◌-◌, List, length, drop, Bool, true, false, not, ◌&&◌, if◌then◌else◌, nat_eq, nat_le, nat_lt}
-use Rattle.std.proofs.Common.{refl, sym, ap, subst}
 use Rattle.std.specs.List.{starts_with, prefix_len, position_or_len}
-use Rattle.sno_text.specs.Patterns.{Pattern}
-use Rattle.sno_text.specs.Patterns as pattern
-use Rattle.sno_text.specs.declared.reach.Reach.{Reach}
-use Rattle.sno_text.specs.declared.reach.Reach.TheVariants.{Here, Nowhere, Depends}
-use Rattle.sno_pattern.specs.declared.ending.Pending.{Pending}
-use Rattle.sno_text.specs.Sets.{is_one_of}
+use Rattle.std.proofs.Common.{refl, sym, ap, subst}
+use Rattle.sno_text.specs.{Patterns.{Pattern}, declared.reach.Reach.{Reach}, declared.reach.Reach.TheVariants.{Here, Nowhere, Depends}, Sets.{is_one_of}}
 use Rattle.sno_text.specs.inner.Reaching.{here_if, reached, is_nowhere}
-use Rattle.sno_pattern.specs.Steps.{Goal, Meet, Failure, Trying, Way, ends, row}
+use Rattle.sno_text.specs.Patterns as pattern
+use Rattle.sno_pattern.specs.{declared.ending.Pending.{Pending}, Steps.{Goal, Meet, Failure, Trying, Way, ends, row}}
 use Rattle.sno_pattern.specs.inner.Meeting.{IsQuiet, IsEntered, IsParted}
 use Rattle.mon_text.specs.Beginnings.{first_passes}
 

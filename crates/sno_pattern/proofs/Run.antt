@@ -1,22 +1,15 @@
 -- A run on the stack, step by step, and a match, start by start.
 use Rattle.std.proofs.Common.{◌≡◌, ℕ, suc, ◌+◌, ◌-◌, List, [], ◌∷◌, length, refl, sym, ap, ◌∙◌, subst, arith}
 use Rattle.std.specs.Prelude.{Result, Ok, Err, OnErr, Bool, if◌then◌else◌}
-use Rattle.interaction.specs.Interactions.{Interaction, Returns, ◌>>=◌}
-use Rattle.interaction.specs.Holding.{RunsTo, StopsIn}
-use Rattle.interaction.proofs.Held.{held_then, cut_here, cut_first, cut_then}
-use Rattle.interaction.proofs.Binds.{then_then}
+use Rattle.interaction.specs.{Interactions.{Interaction, Returns, ◌>>=◌}, Holding.{RunsTo, StopsIn}}
+use Rattle.interaction.proofs.{Held.{held_then, cut_here, cut_first, cut_then}, Binds.{then_then}}
 use Rattle.sno_text.specs.Patterns.{Pattern}
-use Rattle.sno_pattern.specs.declared.ending.Pending.{Pending}
-use Rattle.sno_pattern.specs.declared.ending.MatchEnd.{MatchEnd}
-use Rattle.sno_pattern.specs.declared.ending.MatchEnd.TheVariants as end
-use Rattle.sno_pattern.specs.Looks.{Look, Told, Fits}
+use Rattle.sno_pattern.specs.{declared.ending.Pending.{Pending}, declared.ending.MatchEnd.{MatchEnd}, Looks.{Look, Told, Fits}, inner.Running.{finishing}}
 use Rattle.sno_pattern.specs.Steps.{Goal, Meet, End, Success, Failure, Outcome, Trying, row, outcome, Finish, settle, from_starts, match_of}
-use Rattle.sno_pattern.specs.declared.choice_points.Turn.{Turn}
-use Rattle.sno_pattern.specs.declared.choice_points.Turn.TheVariants.{Go}
-use Rattle.sno_pattern.specs.inner.Running.{finishing}
 use Rattle.sno_pattern.specs.inner.Stack.{Ahead, Choice, waiting_of, resume, turned, Entering, Moved}
-use Rattle.sno_pattern.proofs.Table.{none_left}
-use Rattle.sno_pattern.proofs.Pushing.{resume_last, moved_as, cut_as}
+use Rattle.sno_pattern.specs.declared.choice_points.Turn.{Turn, TheVariants.{Go}}
+use Rattle.sno_pattern.proofs.{Table.{none_left}, Pushing.{resume_last, moved_as, cut_as}}
+use Rattle.sno_pattern.specs.declared.ending.MatchEnd.TheVariants as end
 
 -- what holds in any case holds on an error
 pub err_holds : {T E P : Type 0} (r : Result T E) → P → OnErr r P

@@ -2,15 +2,11 @@
 use Rattle.std.specs.Prelude.{◌≡◌, ℕ, zero, suc, ◌+◌, ◌-◌, ◌≤◌, List, [], ◌∷◌, ◌++◌, length, drop, Bool, true, false, not, ◌&&◌, if◌then◌else◌, nat_eq, nat_le, nat_lt}
 use Rattle.std.proofs.Common.{refl, ap, arith}
 use Rattle.std.specs.List.{starts_with, prefix_len, position_or_len, range_with_len}
-use Rattle.sno_text.specs.Patterns.{Pattern}
+use Rattle.sno_text.specs.{Patterns.{Pattern}, Sets.{is_one_of}, Balance.{part, balanced_ends}}
 use Rattle.sno_text.specs.Patterns as pattern
-use Rattle.sno_pattern.specs.declared.ending.Pending.{Pending}
-use Rattle.sno_pattern.specs.declared.host.Taken.TheVariants.{Part, Cursor}
-use Rattle.sno_pattern.specs.Looks.{LookUp, Assign}
-use Rattle.sno_text.specs.Sets.{is_one_of}
-use Rattle.sno_text.specs.Balance.{part, balanced_ends}
-use Rattle.sno_pattern.specs.Steps.{Goal, Meet, More, EndConditional, EndImmediate, Success, Failure, WholeFails, OutOfSteps, Way, ends, on_failure, at_each, if_given, row, attempt, outcome}
+use Rattle.sno_pattern.specs.{declared.ending.Pending.{Pending}, declared.host.Taken.TheVariants.{Part, Cursor}, Looks.{LookUp, Assign}}
 use Rattle.sno_pattern.specs.inner.Found.{with_found}
+use Rattle.sno_pattern.specs.Steps.{Goal, Meet, More, EndConditional, EndImmediate, Success, Failure, WholeFails, OutOfSteps, Way, ends, on_failure, at_each, if_given, row, attempt, outcome}
 use Rattle.sno_pattern.proofs.Trying.{LeavesAtMost, Falls, Agree, leaves_more, fails_falls, fails_agree, if_falls, found_falls, given_falls, found_agrees, asks_same}
 use Rattle.mon_text.specs.Beginnings.{first_passes}
 

@@ -1,15 +1,10 @@
 -- What one attempt and then another leave, and where they agree.
 use Rattle.std.specs.Prelude.{◌≡◌, ℕ, ◌≤◌, List, Bool, true, false, if◌then◌else◌}
 use Rattle.std.proofs.Common.{refl, ap, ◌∙◌, arith}
-use Rattle.interaction.specs.Interactions.{Returns, Asks}
-use Rattle.interaction.specs.Endings.{EndsIn}
-use Rattle.interaction.proofs.Binds.{funext}
-use Rattle.interaction.proofs.Enough.{ends_in_then, same_then}
+use Rattle.interaction.{specs.Interactions.{Returns, Asks}, specs.Endings.{EndsIn}, proofs.Binds.{funext}, proofs.Enough.{ends_in_then, same_then}}
 use Rattle.sno_text.specs.Patterns.{Pattern}
-use Rattle.sno_pattern.specs.declared.ending.Pending.{Pending}
-use Rattle.sno_pattern.specs.Looks.{Look, Told, Found, Given, Refused, Faulty}
+use Rattle.sno_pattern.specs.{declared.ending.Pending.{Pending}, Looks.{Look, Told, Found, Given, Refused, Faulty}, inner.Found.{with_found}}
 use Rattle.sno_pattern.specs.Steps.{Goal, End, Success, Failure, WholeFails, OutOfSteps, Fault, Outcome, Trying, Way, ends, on_failure, pattern_found, if_given}
-use Rattle.sno_pattern.specs.inner.Found.{with_found}
 
 -- the second attempt after an end, if that is failure, with the steps that are left
 abbrev pub after_end : End → ℕ → (ℕ → Trying) → Trying

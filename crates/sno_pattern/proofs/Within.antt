@@ -2,25 +2,16 @@
 use Rattle.std.specs.Prelude.{ℕ, zero, suc, ◌+◌, ◌-◌, ◌≤◌, List, [], ◌∷◌, ◌++◌, length, drop, Bool, true, false, not, ◌&&◌, if◌then◌else◌, nat_eq, nat_le, nat_lt}
 use Rattle.std.proofs.Common.{arith}
 use Rattle.std.specs.List.{starts_with, prefix_len, position_or_len, range_with_len}
-use Rattle.interaction.specs.Interactions.{Interaction, Returns, Asks}
-use Rattle.interaction.specs.Endings.{EndsIn}
-use Rattle.interaction.specs.Holding.{RunsTo}
+use Rattle.interaction.specs.{Interactions.{Interaction, Returns, Asks}, Endings.{EndsIn}, Holding.{RunsTo}}
 use Rattle.interaction.proofs.Enough.{ends_in_then, ends_in_weaker}
 use Rattle.std.proofs.Common.{sym, subst}
-use Rattle.sno_text.specs.Patterns.{Pattern}
+use Rattle.sno_text.specs.{Patterns.{Pattern}, Sets.{is_one_of}, Balance.{part, balanced_ends}}
 use Rattle.sno_text.specs.Patterns as pattern
-use Rattle.sno_pattern.specs.declared.ending.Pending.{Pending}
-use Rattle.sno_pattern.specs.Looks.{Look, Told, Found, Given, Refused, Faulty}
-use Rattle.sno_text.specs.Sets.{is_one_of}
-use Rattle.sno_text.specs.Balance.{part, balanced_ends}
+use Rattle.sno_pattern.specs.{declared.ending.Pending.{Pending}, Looks.{Look, Told, Found, Given, Refused, Faulty}, inner.Found.{with_found}}
+use Rattle.sno_pattern.specs.{Places.{one_end, MatchesWithin}, Laws.{MatchIsWithin}}
+use Rattle.sno_pattern.proofs.{Finding.{Between, ends_between}, Firsts.{enough_starts}, Trying.{after_end}}
 use Rattle.sno_pattern.specs.Steps.{Goal, Meet, More, EndConditional, EndImmediate, End, Success, Failure, WholeFails, OutOfSteps, Fault, Outcome, Trying, Way, ends, on_failure, at_each, pattern_found, if_given, row, attempt, outcome, Finish, settle, from_starts}
-use Rattle.sno_pattern.specs.inner.Found.{with_found}
-use Rattle.sno_pattern.specs.Places.{one_end, MatchesWithin}
-use Rattle.sno_pattern.specs.Laws.{MatchIsWithin}
-use Rattle.sno_pattern.proofs.Finding.{Between, ends_between}
-use Rattle.sno_pattern.proofs.Firsts.{enough_starts}
 use Rattle.mon_text.specs.Beginnings.{first_passes}
-use Rattle.sno_pattern.proofs.Trying.{after_end}
 
 -- goals come out from a cursor on
 abbrev Onward : ℕ → ℕ → End → Type 0

@@ -1,20 +1,11 @@
 -- A larger number than the statements that may still begin changes nothing.
 use Rattle.std.proofs.Common.{◌≡◌, ℕ, zero, suc, ◌+◌, ◌≤◌, ◌<◌, Option, Some, None, refl, sym, ap, ◌∙◌, subst, arith}
-use Rattle.std.specs.Prelude.{slice_get}
-use Rattle.std.specs.Option.{option_map_or}
-use Rattle.interaction.specs.Interactions.{Interaction, Returns, Asks, ◌>>=◌}
-use Rattle.interaction.specs.Endings.{EndsIn}
-use Rattle.interaction.proofs.Enough.{ends_in_then, same_then, ends_in_weaker}
+use Rattle.std.specs.{Prelude.{slice_get}, Option.{option_map_or}}
+use Rattle.interaction.{specs.Interactions.{Interaction, Returns, Asks, ◌>>=◌}, specs.Endings.{EndsIn}, proofs.Enough.{ends_in_then, same_then, ends_in_weaker}}
 use Rattle.sno_expression.specs.Expressions.{Expression}
-use Rattle.sno_semantics.specs.declared.got.Halt.TheVariants.{Normal, StatementLimit}
-use Rattle.sno_semantics.specs.declared.got.Evaluated.{Evaluated}
-use Rattle.sno_semantics.specs.declared.got.Evaluated.TheVariants.{Halts}
-use Rattle.sno_semantics.specs.Evaluation.{evaluate, name_of}
-use Rattle.sno_semantics.specs.Keeping.{Keeping}
-use Rattle.sno_semantics.specs.Lines.{Point, At, End, Return, FailureReturn, Line, Lines}
-use Rattle.sno_semantics.specs.Execution.{Jump}
-use Rattle.sno_semantics.specs.Running.{Ended, executed, passed, if_begun, run_line, run, settled, turn_line, turn}
-use Rattle.sno_semantics.specs.Limits.{Counts}
+use Rattle.sno_semantics.specs.{declared.got.Halt.TheVariants.{Normal, StatementLimit}, declared.got.Evaluated.{Evaluated}, Evaluation.{evaluate, name_of}}
+use Rattle.sno_semantics.specs.{declared.got.Evaluated.TheVariants.{Halts}, Keeping.{Keeping}, Lines.{Point, At, End, Return, FailureReturn, Line, Lines}}
+use Rattle.sno_semantics.specs.{Execution.{Jump}, Running.{Ended, executed, passed, if_begun, run_line, run, settled, turn_line, turn}, Limits.{Counts}}
 use Rattle.sno_semantics.proofs.Relating.{Keeps, executed_alike, passed_alike}
 
 weaker : {Q R A K : Type 0} (allowed : K → ℕ) (b n : ℕ) (t : Interaction Q R (A × K)) → n ≤ b

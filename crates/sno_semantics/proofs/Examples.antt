@@ -5,22 +5,16 @@ use Rattle.interaction.specs.Interactions.{Interaction, Returns}
 use Rattle.sno_lexer.specs.declared.token.Constant.TheVariants.{Literal, Integer as Written}
 use Rattle.sno_text.specs.declared.fault.Fault.TheVariants as fault
 use Rattle.sno_expression.specs.declared.tree.BinaryOperator.TheVariants.{Plus, Over, Times, Power}
-use Rattle.sno_expression.specs.declared.tree.UnaryOperator.TheVariants as unary
 use Rattle.sno_expression.specs.Expressions.{Expression, Identifier, Constant, Call, Unary, Binary, NoArguments, Omitted}
+use Rattle.sno_expression.specs.declared.tree.UnaryOperator.TheVariants as unary
 use Rattle.sno_statement.specs.Statements.{Says, Does, NoBody, ValueObject, Always}
 use Rattle.sno_statement.specs.Statements as statement
 use Rattle.sno_pattern.specs.declared.ending.MatchEnd.TheVariants as end
-use Rattle.sno_value.specs.declared.value.Value.{Value}
-use Rattle.sno_value.specs.declared.value.Value.TheVariants.{Text, Integer}
+use Rattle.sno_value.specs.{declared.value.Value.{Value}, declared.value.Value.TheVariants.{Text, Integer}, Values.{null}}
 use Rattle.sno_value.specs.declared.outcome.Outcome.TheVariants as outcome
-use Rattle.sno_value.specs.Values.{null}
-use Rattle.sno_semantics.specs.declared.got.Halt.TheVariants.{Normal, StatementLimit, Fault}
-use Rattle.sno_semantics.specs.declared.got.Evaluated.{Evaluated}
-use Rattle.sno_semantics.specs.declared.got.Evaluated.TheVariants.{Gives, Fails, Halts}
-use Rattle.sno_semantics.specs.Evaluation.{evaluate, name_of}
+use Rattle.sno_semantics.specs.{declared.got.Halt.TheVariants.{Normal, StatementLimit, Fault}, declared.got.Evaluated.{Evaluated}, Lines.{Lines, At, lines_of}}
+use Rattle.sno_semantics.specs.{declared.got.Evaluated.TheVariants.{Gives, Fails, Halts}, Evaluation.{evaluate, name_of}, Running.{Turned, Goes, Ended, turn}}
 use Rattle.sno_semantics.specs.Keeping.{Setting, Keeping, Undefined, Enters, setting_of}
-use Rattle.sno_semantics.specs.Lines.{Lines, At, lines_of}
-use Rattle.sno_semantics.specs.Running.{Turned, Goes, Ended, turn}
 
 record Small : Type 0 where
   value : Value

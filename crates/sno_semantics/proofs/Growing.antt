@@ -1,18 +1,13 @@
 -- Whatever holds of interactions behind so many beginnings holds of a turn, if it holds of all that statements do to a job's state.
 use Rattle.std.proofs.Common.{◌≡◌, ℕ, zero, suc, ◌+◌, List, Option, Some, None, refl, subst}
-use Rattle.std.specs.Prelude.{slice_get}
-use Rattle.std.specs.Option.{option_map_or}
+use Rattle.std.specs.{Prelude.{slice_get}, Option.{option_map_or}}
 use Rattle.interaction.specs.Interactions.{Interaction, Returns, ◌>>=◌}
 use Rattle.sno_expression.specs.Expressions.{Expression}
 use Rattle.sno_pattern.specs.declared.ending.MatchEnd.{MatchEnd}
 use Rattle.sno_value.specs.declared.value.Value.{Value}
-use Rattle.sno_semantics.specs.declared.got.Halt.TheVariants.{Normal, StatementLimit}
-use Rattle.sno_semantics.specs.declared.got.Evaluated.{Evaluated}
-use Rattle.sno_semantics.specs.declared.got.Evaluated.TheVariants.{Halts}
-use Rattle.sno_semantics.specs.Evaluation.{evaluate, name_of}
-use Rattle.sno_semantics.specs.Keeping.{Keeping, Enters}
-use Rattle.sno_semantics.specs.Lines.{Point, At, End, Return, FailureReturn, Line, Lines}
-use Rattle.sno_semantics.specs.Execution.{Jump, On, Over}
+use Rattle.sno_semantics.specs.declared.got.{Halt.TheVariants.{Normal, StatementLimit}, Evaluated.{Evaluated}}
+use Rattle.sno_semantics.specs.{declared.got.Evaluated.TheVariants.{Halts}, Evaluation.{evaluate, name_of}, Keeping.{Keeping, Enters}}
+use Rattle.sno_semantics.specs.{Lines.{Point, At, End, Return, FailureReturn, Line, Lines}, Execution.{Jump, On, Over}}
 use Rattle.sno_semantics.specs.Running.{Turned, Ended, executed, passed, if_begun, run_line, run, settled, turn_line, turn}
 use Rattle.sno_semantics.proofs.Relating.{Keeps, executed_alike, passed_alike}
 

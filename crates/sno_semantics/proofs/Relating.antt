@@ -1,35 +1,25 @@
 -- What relates two interactions from a state on relates two runs of a statement, if it relates all that statements do to a job's state
 -- with itself, and the calls of the one run with those of the other.
 use Rattle.std.proofs.Common.{◌≡◌, ℕ, Bool, true, false, cond, List, [], ◌∷◌, ◌++◌, Option, Some, None, refl}
-use Rattle.std.specs.Prelude.{take, drop}
-use Rattle.std.specs.Option.{option_map_or}
+use Rattle.std.specs.{Prelude.{take, drop}, Option.{option_map_or}}
 use Rattle.interaction.specs.Interactions.{Interaction, Returns, ◌>>=◌}
 use Rattle.sno_expression.specs.declared.tree.UnaryOperator.TheVariants as unary
-use Rattle.sno_expression.specs.Marks.{needs_variable}
-use Rattle.sno_expression.specs.Expressions.{Expression, Identifier, Constant, Keyword, Unevaluated, Group, Call, TableItem, Unary, Binary}
-use Rattle.sno_expression.specs.Expressions.{Arguments, NoArguments, Omitted, Argument}
+use Rattle.sno_expression.specs.{Marks.{needs_variable}, Expressions.{NoArguments, Omitted, Argument}}
+use Rattle.sno_expression.specs.Expressions.{Expression, Identifier, Constant, Keyword, Unevaluated, Group, Call, TableItem, Unary, Binary, Arguments}
 use Rattle.sno_syntax.specs.Labels.{LabelList}
-use Rattle.sno_pattern.specs.declared.ending.Pending.{Pending}
-use Rattle.sno_pattern.specs.declared.ending.MatchEnd.{MatchEnd}
+use Rattle.sno_pattern.specs.declared.ending.{Pending.{Pending}, MatchEnd.{MatchEnd}}
 use Rattle.sno_pattern.specs.declared.ending.MatchEnd.TheVariants as end
-use Rattle.sno_value.specs.declared.value.Value.{Value}
+use Rattle.sno_value.specs.{declared.value.Value.{Value}, Values.{null, text_of}, Outcomes.{string}}
 use Rattle.sno_value.specs.declared.value.Value.TheVariants as value
 use Rattle.sno_text.specs.declared.fault.Fault.TheVariants.{WrongType, Null, Goto}
-use Rattle.sno_semantics.specs.declared.got.Halt.TheVariants.{Fault}
+use Rattle.sno_semantics.specs.{declared.got.Halt.TheVariants.{Fault}, declared.got.Evaluated.{Evaluated}, Operators.{table, key}}
+use Rattle.sno_semantics.specs.{declared.got.Evaluated.TheVariants.{Gives, Fails, Halts}, Outcomes.{with_value, got_of, Doing, reads, comes_to, with_name}}
+use Rattle.sno_semantics.specs.{Evaluation.{evaluate, name_of, evaluate_all}, Keeping.{Setting, Keeping, Entered, Undefined, Enters, Refused, setting_of}}
+use Rattle.sno_semantics.specs.Lines.{Destination, Variable, ItemAt, Act, Nothing, Uses, SetsKeyword, Assigns, Matches, Replaces, Point, At, End, Return}
+use Rattle.sno_semantics.specs.Lines.{FailureReturn, Target, Following, To, Computed, Line, Lines, point_of}
+use Rattle.sno_semantics.specs.Execution.{Jump, On, Over, computed_next, Place, OfName, OfItem, assign_all, put_in_place, with_match, object_of, match_then}
+use Rattle.sno_semantics.specs.{Execution.{place_then, perform, followed, execute}, Running.{returned, go_from, call_by, executed, passed}}
 use Rattle.sno_value.specs.declared.outcome.Outcome.TheVariants as outcome
-use Rattle.sno_value.specs.Values.{null, text_of}
-use Rattle.sno_value.specs.Outcomes.{string}
-use Rattle.sno_semantics.specs.declared.got.Evaluated.{Evaluated}
-use Rattle.sno_semantics.specs.declared.got.Evaluated.TheVariants.{Gives, Fails, Halts}
-use Rattle.sno_semantics.specs.Outcomes.{with_value, got_of, Doing, reads, comes_to, with_name}
-use Rattle.sno_semantics.specs.Operators.{table, key}
-use Rattle.sno_semantics.specs.Evaluation.{evaluate, name_of, evaluate_all}
-use Rattle.sno_semantics.specs.Keeping.{Setting, Keeping, Entered, Undefined, Enters, Refused, setting_of}
-use Rattle.sno_semantics.specs.Lines.{Destination, Variable, ItemAt, Act, Nothing, Uses, SetsKeyword, Assigns, Matches, Replaces}
-use Rattle.sno_semantics.specs.Lines.{Point, At, End, Return, FailureReturn, Target, Following, To, Computed, Line, Lines, point_of}
-use Rattle.sno_semantics.specs.Execution.{Jump, On, Over, computed_next, Place, OfName, OfItem, assign_all, put_in_place, with_match}
-use Rattle.sno_semantics.specs.Execution.{object_of, match_then, place_then, perform, followed, execute}
-use Rattle.sno_semantics.specs.Running.{returned, go_from, call_by, executed, passed}
 
 module _ {Q R K : Type 0} (Related : (A : Type 0) → K → Interaction Q R (A × K) → Interaction Q R (A × K) → Type 0)
     (done : (A : Type 0) (r : A × K) → Related A r.1 (Returns r) (Returns r))

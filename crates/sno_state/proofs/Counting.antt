@@ -1,69 +1,36 @@
 -- What statements do leaves the number of statements that were begun, but for the beginning of one.
 use Rattle.std.proofs.Common.{◌≡◌, ℕ, ℤ, pos, negsuc, ◌≤◌, ◌<◌, Bool, true, false, List, [], ◌∷◌, length, Option, Some, None, Result, Ok, Err, refl, subst, arith, nat_le, nat_lt, ◌&&◌}
-use Rattle.std.specs.Prelude.{ok_or, if◌then◌else◌}
-use Rattle.std.specs.Option.{option_map_or}
-use Rattle.std.proofs.lemmas.Bool.Decides.{nat_tests}
-use Rattle.interaction.specs.Interactions.{Returns, interpreted}
-use Rattle.interaction.specs.Endings.{EndsIn}
-use Rattle.interaction.proofs.Enough.{ends_in_then, ends_in_weaker}
-use Rattle.interaction.proofs.Hosts.{through_ends}
-use Rattle.interaction.specs.Asking.{Asking}
-use Rattle.interaction.specs.Counting.{lifted}
-use Rattle.interaction.proofs.Counting.{lifted_ends}
-use Rattle.interaction.specs.declared.request.Act.{Act}
-use Rattle.interaction.specs.declared.request.Act.TheVariants as act
+use Rattle.std.{specs.Prelude.{ok_or, if◌then◌else◌}, specs.Option.{option_map_or}, proofs.lemmas.Bool.Decides.{nat_tests}}
+use Rattle.interaction.specs.{Interactions.{Returns, interpreted}, Endings.{EndsIn}, Asking.{Asking}, Counting.{lifted}, declared.request.Act.{Act}}
 use Rattle.interaction.specs.declared.answer.Answer.{Answer}
+use Rattle.interaction.proofs.{Enough.{ends_in_then, ends_in_weaker}, Hosts.{through_ends}, Counting.{lifted_ends}}
+use Rattle.interaction.specs.declared.request.Act.TheVariants as act
 use Rattle.interaction.specs.declared.answer.Answer.TheVariants as answer
-use Rattle.sno_text.specs.declared.fault.Fault.{Fault as AFault}
+use Rattle.sno_text.specs.declared.fault.Fault.{Fault as AFault, TheVariants.{WrongType}}
 use Rattle.sno_text.specs.declared.fault.Fault.TheVariants as fault
-use Rattle.sno_text.specs.declared.fault.Fault.TheVariants.{WrongType}
-use Rattle.sno_value.specs.declared.value.Value.{Value}
-use Rattle.sno_value.specs.Values.{null, pattern_of, text_of, number_of}
-use Rattle.sno_value.specs.Primitives.{argument, primitive_named}
-use Rattle.sno_value.specs.declared.primitive.Primitive.{Primitive}
-use Rattle.sno_pattern.specs.Looks.{Look, LookUp, Assign, Told, Given}
-use Rattle.sno_pattern.specs.Steps.{match_of}
+use Rattle.sno_value.specs.{declared.value.Value.{Value}, Values.{null, pattern_of, text_of, number_of}, Primitives.{argument, primitive_named}}
+use Rattle.sno_value.specs.{declared.primitive.Primitive.{Primitive}, Keys.{place_of}, Tables.{with_table, with_item}}
+use Rattle.sno_pattern.specs.{Looks.{Look, LookUp, Assign, Told, Given}, Steps.{match_of}}
 use Rattle.sno_pattern.specs.declared.ending.MatchEnd.TheVariants as end
-use Rattle.sno_declarations.specs.Arguments.{go_on, name_in, input_in, output_in, unit_in}
-use Rattle.sno_declarations.specs.Definitions.{definition_in}
-use Rattle.sno_declarations.specs.Formats.{records}
-use Rattle.sno_declarations.specs.declared.association.Input.{Input}
-use Rattle.sno_declarations.specs.declared.association.Output.{Output}
-use Rattle.sno_declarations.specs.declared.definition.Definition.{Definition}
-use Rattle.sno_semantics.specs.declared.got.Evaluated.{Evaluated}
-use Rattle.sno_semantics.specs.declared.got.Evaluated.TheVariants.{Halts}
-use Rattle.sno_semantics.specs.declared.got.Halt.TheVariants.{Fault}
-use Rattle.sno_semantics.specs.Keeping.{Entered, Undefined, Enters, Refused}
-use Rattle.sno_semantics.specs.Limits.{Counts}
-use Rattle.sno_store.specs.declared.keyword.Keyword.{Keyword}
-use Rattle.sno_store.specs.declared.keyword.Keywords.{Keywords}
+use Rattle.sno_declarations.specs.{Arguments.{go_on, name_in, input_in, output_in, unit_in}, Definitions.{definition_in}, Formats.{records}}
+use Rattle.sno_declarations.specs.declared.{association.Input.{Input}, association.Output.{Output}, definition.Definition.{Definition}}
+use Rattle.sno_semantics.specs.declared.got.{Evaluated.{Evaluated}, Evaluated.TheVariants.{Halts}, Halt.TheVariants.{Fault}}
+use Rattle.sno_semantics.specs.{Keeping.{Entered, Undefined, Enters, Refused}, Limits.{Counts}}
+use Rattle.sno_store.{specs.declared.keyword.Keyword.{Keyword}, specs.declared.keyword.Keywords.{Keywords}, specs.CallFrames.{CallFrame}, proofs.Left.{left_by}}
+use Rattle.sno_store.specs.{declared.store.Store.{Store as State}, Keywords.{keyword_named, with_keyword, is_settable}}
+use Rattle.sno_store.specs.States.{with_value_of, with_keyword_set, function_of, may_begin, with_statement, new_table, with_new_table, with_item_set}
+use Rattle.sno_store.specs.Callees.{state_function_named}
+use Rattle.sno_store.specs.declared.callee.Change.{Change, TheVariants.{Define, Input as Reads, Output as Writes, Detach}}
+use Rattle.sno_store.specs.declared.callee.StateFunction.{StateFunction, TheVariants.{Changes, Endfile, Rewind, NewTable}}
 use Rattle.sno_store.specs.declared.keyword.Keyword.TheVariants.{Anchor, FullScan, Trim, StatementLimit, MaximumLength, StatementCount, StatementNumber, FunctionLevel}
-use Rattle.sno_store.specs.CallFrames.{CallFrame}
-use Rattle.sno_store.specs.declared.store.Store.{Store as State}
 use Rattle.sno_variables.specs.Variables as variables
 use Rattle.sno_variables.specs.Variables.{Use, use_of, variable_of}
-use Rattle.sno_store.specs.Keywords.{keyword_named, with_keyword, is_settable}
-use Rattle.sno_store.specs.States.{with_value_of, with_keyword_set, function_of, may_begin, with_statement, new_table, with_new_table, with_item_set}
 use Rattle.sno_store.specs.Calls as calls
-use Rattle.sno_store.proofs.Left.{left_by}
 use Rattle.sno_text.specs.Patterns as patterns
-use Rattle.sno_value.specs.Keys.{place_of}
-use Rattle.sno_value.specs.Tables.{with_table, with_item}
-use Rattle.sno_state.specs.Items.{item_set}
+use Rattle.sno_state.specs.{Items.{item_set}, Asking.{if_done, asked, changed_by}, Keywords.{keyword_set}, Calling.{begun, entered}, State.{keeping, allowed}}
+use Rattle.sno_state.specs.{Using.{stored_of, used_by, used, write_all, written, assigned}, Matching.{value_taken, looked_at, told_by, looking, matched}}
+use Rattle.sno_state.specs.{inner.Parts.{is_anchored, write_text, called, on_values}, Primitives.{state_changed, on_unit, state_function_done, primitive}}
 use Rattle.sno_cards.specs.declared.limits.Limits.{Limits}
-use Rattle.sno_store.specs.declared.callee.Change.{Change}
-use Rattle.sno_store.specs.declared.callee.Change.TheVariants.{Define, Input as Reads, Output as Writes, Detach}
-use Rattle.sno_store.specs.declared.callee.StateFunction.{StateFunction}
-use Rattle.sno_store.specs.declared.callee.StateFunction.TheVariants.{Changes, Endfile, Rewind, NewTable}
-use Rattle.sno_state.specs.Asking.{if_done, asked, changed_by}
-use Rattle.sno_state.specs.Keywords.{keyword_set}
-use Rattle.sno_state.specs.Using.{stored_of, used_by, used, write_all, written, assigned}
-use Rattle.sno_state.specs.Matching.{value_taken, looked_at, told_by, looking, matched}
-use Rattle.sno_state.specs.inner.Parts.{is_anchored, write_text, called, on_values}
-use Rattle.sno_state.specs.Calling.{begun, entered}
-use Rattle.sno_store.specs.Callees.{state_function_named}
-use Rattle.sno_state.specs.Primitives.{state_changed, on_unit, state_function_done, primitive}
-use Rattle.sno_state.specs.State.{keeping, allowed}
 
 module _ (n : ℕ) where
   -- so many were begun

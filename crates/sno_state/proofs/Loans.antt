@@ -1,17 +1,11 @@
 -- What a host that holds loans leaves.
 use Rattle.std.proofs.Common.{refl, ◌∙◌}
-use Rattle.interaction.specs.Interactions.{Interaction, interpreted}
+use Rattle.interaction.specs.{Interactions.{Interaction, interpreted}, declared.request.Request.{Request}, declared.answer.Answer.{Answer}}
+use Rattle.interaction.specs.{Fitting.{Fits as Suits}, Asking.{RunsTo, StopsIn}}
+use Rattle.interaction.proofs.{Held.{held_keeps, cut_keeps}, Hosts.{held_through, cut_through}}
 use Rattle.interaction.specs.Holding as holding
-use Rattle.interaction.proofs.Held.{held_keeps, cut_keeps}
-use Rattle.interaction.proofs.Hosts.{held_through, cut_through}
-use Rattle.interaction.specs.declared.request.Request.{Request}
-use Rattle.interaction.specs.declared.answer.Answer.{Answer}
-use Rattle.interaction.specs.Fitting.{Fits as Suits}
-use Rattle.interaction.specs.Asking.{RunsTo, StopsIn}
 use Rattle.sno_pattern.specs.Looks.{Look, Told, Fits}
-use Rattle.sno_state.specs.declared.host.Host.{Host}
-use Rattle.sno_state.specs.Matching.{looking}
-use Rattle.sno_state.specs.inner.Lent.{SameLoans, HostTells, HostBroken}
+use Rattle.sno_state.specs.{declared.host.Host.{Host}, Matching.{looking}, inner.Lent.{SameLoans, HostTells, HostBroken}}
 
 module _ {S : Type 0} (answers : S → Request → Answer → S → Type 0) where
   same_here : (h : Host S) → SameLoans h h

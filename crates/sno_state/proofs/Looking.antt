@@ -1,23 +1,14 @@
 -- What a match is told of a variable whose value stands in the store.
 use Rattle.std.proofs.Common.{◌≡◌, ℕ, List, refl, sym, ap, subst}
 use Rattle.std.specs.Prelude.{Result, Ok, Err}
-use Rattle.interaction.specs.Interactions.{Returns, ◌>>=◌}
-use Rattle.interaction.proofs.Held.{cut_here}
-use Rattle.interaction.specs.declared.request.Request.{Request}
-use Rattle.interaction.specs.declared.answer.Answer.{Answer}
-use Rattle.interaction.specs.Fitting.{Fits}
-use Rattle.interaction.specs.Asking.{Asking, RunsTo}
-use Rattle.sno_pattern.specs.declared.host.Looked.{Looked}
-use Rattle.sno_pattern.specs.declared.host.Stop.{Stop}
+use Rattle.interaction.{specs.Interactions.{Returns, ◌>>=◌}, proofs.Held.{cut_here}, specs.declared.request.Request.{Request}, specs.Fitting.{Fits}}
+use Rattle.interaction.specs.{declared.answer.Answer.{Answer}, Asking.{Asking, RunsTo}}
+use Rattle.sno_pattern.specs.{declared.host.Looked.{Looked}, declared.host.Stop.{Stop}, Looks.{Look, LookUp, Told, Found, Faulty, Refused}, Hosts.{WasFound}}
 use Rattle.sno_pattern.specs.declared.host.Stop.TheVariants as stop
-use Rattle.sno_pattern.specs.Looks.{Look, LookUp, Told, Found, Faulty, Refused}
-use Rattle.sno_pattern.specs.Hosts.{WasFound}
 use Rattle.sno_store.specs.declared.store.Store.{Store as State}
 use Rattle.sno_value.specs.declared.value.Value.{Value}
 use Rattle.sno_variables.specs.Variables.{Use, Gives, use_of, variable_of}
-use Rattle.sno_state.specs.Using.{used_by}
-use Rattle.sno_state.specs.Matching.{looked_at, told_by, looking}
-use Rattle.sno_state.specs.inner.Telling.{Looks, StateTells, StateBroken}
+use Rattle.sno_state.specs.{Using.{used_by}, Matching.{looked_at, told_by, looking}, inner.Telling.{Looks, StateTells, StateBroken}}
 
 pub value_is : (v : List ℕ) (s : State) (value : Value) → Gives value ≡ use_of (variable_of v s.variables)
     → looking (LookUp v) s ≡ Returns (looked_at value, s)

@@ -1,25 +1,14 @@
 -- As many statements have begun as a job's state tells.
 use Rattle.std.proofs.Common.{◌≡◌, ℕ, ◌+◌, ◌<◌, Bool, true, false, List, [], ◌∷◌, Option, Some, None, refl, ap, sym, subst, arith, nat_lt, ◌&&◌}
-use Rattle.std.specs.Prelude.{if◌then◌else◌}
-use Rattle.std.proofs.lemmas.Bool.Decides.{nat_tests}
-use Rattle.interaction.specs.Interactions.{Returns, Asks, ◌>>=◌}
-use Rattle.interaction.specs.Endings.{EndsIn}
-use Rattle.interaction.specs.declared.answer.Answer.{Answer}
-use Rattle.interaction.specs.declared.answer.Answer.TheVariants.{Done}
-use Rattle.interaction.specs.Asking.{Asking}
-use Rattle.interaction.specs.Counting.{Moment, Beginning, Requesting, Counted, Passed, lifted, statements_in, IsTrace}
+use Rattle.std.{specs.Prelude.{if◌then◌else◌}, proofs.lemmas.Bool.Decides.{nat_tests}}
+use Rattle.interaction.specs.{Interactions.{Returns, Asks, ◌>>=◌}, Endings.{EndsIn}, declared.answer.Answer.{Answer}, declared.answer.Answer.TheVariants.{Done}}
+use Rattle.interaction.specs.{Asking.{Asking}, Counting.{Moment, Beginning, Requesting, Counted, Passed, lifted, statements_in, IsTrace}}
 use Rattle.interaction.proofs.Counting.{with_statement}
-use Rattle.sno_semantics.specs.Keeping.{Entered, Enters}
-use Rattle.sno_store.specs.declared.store.Store.{Store as State}
-use Rattle.sno_store.specs.States.{may_begin, with_statement as with_statement_begun}
+use Rattle.sno_semantics.{specs.Keeping.{Entered, Enters}, proofs.Growing.{Grows}}
+use Rattle.sno_store.specs.{declared.store.Store.{Store as State}, States.{may_begin, with_statement as with_statement_begun}}
 use Rattle.sno_cards.specs.declared.limits.Limits.{Limits}
-use Rattle.sno_state.specs.Using.{used, assigned}
-use Rattle.sno_state.specs.Matching.{matched}
-use Rattle.sno_state.specs.Calling.{begun}
-use Rattle.sno_state.specs.Primitives.{primitive}
-use Rattle.sno_state.specs.State.{keeping}
+use Rattle.sno_state.specs.{Using.{used, assigned}, Matching.{matched}, Calling.{begun}, Primitives.{primitive}, State.{keeping}}
 use Rattle.sno_state.proofs.Counting.{Inside, used_stays, assigned_stays, keyword_stays, item_stays, matched_stays, entered_stays, left_stays, primitive_stays}
-use Rattle.sno_semantics.proofs.Growing.{Grows}
 
 -- so many statements have begun: each that begins is one more, within the limit; and what it ends with tells how many
 abbrev pub Tallied : {A : Type 0} → ℕ → (A → ℕ) → ℕ → Counted A → Type 0

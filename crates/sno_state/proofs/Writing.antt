@@ -1,23 +1,14 @@
 -- The records of a text, written one after the other.
 use Rattle.std.proofs.Common.{◌≡◌, ℕ, ◌+◌, ◌-◌, ◌≤◌, ◌<◌, Bool, true, false, List, [], ◌∷◌, length, take, drop, nat_le, refl, sym, ap, ◌∙◌, subst, arith, length-drop, drop-drop, le-leb}
-use Rattle.std.specs.Prelude.{if◌then◌else◌}
-use Rattle.std.proofs.lemmas.Bool.Decides.{nat_tests}
-use Rattle.interaction.specs.Interactions.{Returns, ask}
-use Rattle.interaction.proofs.Held.{held_then, cut_then}
-use Rattle.interaction.specs.Asking.{Asking, RunsTo, StopsIn}
-use Rattle.interaction.specs.Fitting.{Fits}
-use Rattle.interaction.specs.declared.request.Act.TheVariants.{Write}
-use Rattle.interaction.specs.declared.request.Request.{Request}
-use Rattle.interaction.specs.declared.answer.Answer.{Answer}
+use Rattle.std.{specs.Prelude.{if◌then◌else◌}, proofs.lemmas.Bool.Decides.{nat_tests}}
+use Rattle.interaction.{specs.Interactions.{Returns, ask}, proofs.Held.{held_then, cut_then}, specs.Asking.{Asking, RunsTo, StopsIn}, specs.Fitting.{Fits}}
+use Rattle.interaction.specs.declared.{request.Act.TheVariants.{Write}, request.Request.{Request}, answer.Answer.{Answer}}
 use Rattle.interaction.specs.declared.answer.Answer.TheVariants as answer
 use Rattle.sno_value.specs.Values.{null}
-use Rattle.sno_semantics.specs.declared.got.Evaluated.{Evaluated}
-use Rattle.sno_semantics.specs.declared.got.Evaluated.TheVariants.{Gives, Fails}
-use Rattle.sno_declarations.specs.Formats.{RecordFormat, IsFormat, most_characters, laid_out, records}
-use Rattle.sno_declarations.specs.Laws.{RecordsFollow}
+use Rattle.sno_semantics.specs.declared.got.Evaluated.{Evaluated, TheVariants.{Gives, Fails}}
+use Rattle.sno_declarations.specs.{Formats.{RecordFormat, IsFormat, most_characters, laid_out, records}, Laws.{RecordsFollow}}
 use Rattle.sno_store.specs.declared.store.Store.{Store as State}
-use Rattle.sno_state.specs.Asking.{request, if_done}
-use Rattle.sno_state.specs.Using.{write_all}
+use Rattle.sno_state.specs.{Asking.{request, if_done}, Using.{write_all}}
 
 pub is_format : (format : RecordFormat) (m : ℕ) → m ≡ format.characters → 1 ≤ m → m ≤ most_characters format.blank → IsFormat format
 is_format format m same positive fits = (subst (λ (x : ℕ). 1 ≤ x) same positive, subst (λ (x : ℕ). x ≤ most_characters format.blank) same fits)

@@ -1,37 +1,23 @@
 -- A statement that the tokens spell is the one that they are read as, with the leftmost of the places where it lacks a variable.
 use Rattle.std.proofs.Common.{arith, ◌≡◌, ℕ, suc, ◌+◌, length, List, [], ◌∷◌, ◌++◌, refl, sym, ap, ◌∙◌, subst}
 use Rattle.std.specs.Prelude.{Bool, true, false, not, nat_le, Option, Some, None, is_some, Result, Ok, Err, ◌||◌, if◌then◌else◌}
+use Rattle.std.proofs.lemmas.{List.{length-append, append_assoc}, Bool.Decides.{nat_tests}}
 use Rattle.std.proofs.Common.{inl, inr}
-use Rattle.std.proofs.lemmas.List.{length-append, append_assoc}
-use Rattle.std.proofs.lemmas.Bool.Decides.{nat_tests}
-use Rattle.sno_lexer.specs.declared.token.Mark.{Mark}
-use Rattle.sno_lexer.specs.declared.token.Mark.TheVariants.{Dollar}
-use Rattle.sno_lexer.specs.declared.token.Outcome.{Outcome}
-use Rattle.sno_lexer.specs.declared.token.Outcome.TheVariants.{Success, Failure}
+use Rattle.sno_lexer.specs.declared.token.{Mark.{Mark}, Mark.TheVariants.{Dollar}, Outcome.{Outcome}, Outcome.TheVariants.{Success, Failure}, Token.{Token}}
 use Rattle.sno_lexer.specs.declared.token.Part.TheVariants.{Equals, Colon}
-use Rattle.sno_lexer.specs.declared.token.Token.{Token}
 use Rattle.sno_lexer.specs.declared.token.TokenKind.TheVariants as token
-use Rattle.sno_expression.specs.declared.tree.BinaryOperator.{BinaryOperator}
-use Rattle.sno_expression.specs.declared.tree.BinaryOperator.TheVariants.{Concatenation}
-use Rattle.sno_expression.specs.declared.tree.UnaryOperator.TheVariants.{Indirect}
+use Rattle.sno_expression.specs.declared.tree.BinaryOperator.{BinaryOperator, TheVariants.{Concatenation}}
+use Rattle.sno_expression.specs.{declared.tree.UnaryOperator.TheVariants.{Indirect}, Spelling.{spaced, Joins, Parts, SpellsTo, SpellTo}}
+use Rattle.sno_expression.specs.{Lacking.{lacking, lacking_among}, Marks.{operand_is_variable}, inner.Reading.{Stops}}
+use Rattle.sno_expression.{specs.inner.Telling.{most, begins, telling}, proofs.Feeding.{headed, complete, counted}}
+use Rattle.sno_expression.proofs.{Lacks.{lacks, lacks_append, lacks_closed, raised}, Loop.{most_most, most_none, none_most}}
 use Rattle.sno_expression.specs.declared.tree.UnaryOperator.TheVariants as unary
 use Rattle.sno_expression.specs.Expressions.{Expression, Arguments, Identifier, Constant, Keyword, Unevaluated, Group, Call, TableItem, Unary, Binary, NoArguments, Omitted, Argument, IsOperand, is_variable}
-use Rattle.sno_expression.specs.Spelling.{spaced, Joins, Parts, SpellsTo, SpellTo}
-use Rattle.sno_expression.specs.Lacking.{lacking, lacking_among}
-use Rattle.sno_expression.specs.Marks.{operand_is_variable}
-use Rattle.sno_expression.specs.inner.Reading.{Stops}
-use Rattle.sno_expression.specs.inner.Telling.{most, begins, telling}
-use Rattle.sno_statement.specs.declared.parser.Refusal.{Refusal}
-use Rattle.sno_statement.specs.declared.role.Role.{Role}
-use Rattle.sno_statement.specs.Statements.{Target, To, Computed, Goto, NoGoto, Always, OnSuccess, OnFailure, OnBoth, Object, NoObject, NullObject, ValueObject, Body, NoBody, Does, Statement, Says, may_be_set}
-use Rattle.sno_statement.specs.Spelling.{TargetTo, OutcomeTo, LeadsTo, GotoTo, ObjectTo, Spells}
+use Rattle.sno_statement.specs.{declared.parser.Refusal.{Refusal}, declared.role.Role.{Role}, Spelling.{TargetTo, OutcomeTo, LeadsTo, GotoTo, ObjectTo, Spells}}
 use Rattle.sno_statement.specs.Lacking.{lacking_object, lacking_body, lacking_target, lacking_goto, named_first, lacking_in}
+use Rattle.sno_statement.proofs.{Roles.{head_role, stops_blank, dollar, no_colon}, Shorthand.{PatternTo, ColonTo, is_wrong, lacking_pattern}}
+use Rattle.sno_statement.specs.Statements.{Target, To, Computed, Goto, NoGoto, Always, OnSuccess, OnFailure, OnBoth, Object, NoObject, NullObject, ValueObject, Body, NoBody, Does, Statement, Says, may_be_set}
 use Rattle.sno_statement.specs.inner.Parsing.{stands, blamed, Aim, Aimed, computed, inside, target_in, Way, Leads, always, both, next, chosen, goto_in, Stated, States, stated, going, is_colon, ends_part, ending, giving, by_object, object_in, set, pattern_then, matching, by_subject, subject_then, acting, by_first, statement_in}
-use Rattle.sno_expression.proofs.Feeding.{headed, complete, counted}
-use Rattle.sno_expression.proofs.Lacks.{lacks, lacks_append, lacks_closed, raised}
-use Rattle.sno_expression.proofs.Loop.{most_most, most_none, none_most}
-use Rattle.sno_statement.proofs.Roles.{head_role, stops_blank, dollar, no_colon}
-use Rattle.sno_statement.proofs.Shorthand.{PatternTo, ColonTo, is_wrong, lacking_pattern}
 
 -- COUNTS
 

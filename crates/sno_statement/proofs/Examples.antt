@@ -2,20 +2,13 @@
 use Rattle.std.proofs.Common.{◌≡◌, ℕ, List, [], ◌∷◌, refl}
 use Rattle.std.specs.Prelude.{Bool, true, false, Option, Some, None}
 use Rattle.sno_lexer.specs.declared.token.Constant.TheVariants as constant
-use Rattle.sno_lexer.specs.declared.token.Mark.{Mark}
-use Rattle.sno_lexer.specs.declared.token.Mark.TheVariants.{Slash, Plus, Dot, Dollar, Ampersand}
-use Rattle.sno_lexer.specs.declared.token.Outcome.{Outcome}
-use Rattle.sno_lexer.specs.declared.token.Outcome.TheVariants.{Success, Failure}
-use Rattle.sno_lexer.specs.declared.token.Part.TheVariants.{Equals, Colon, On, Label}
-use Rattle.sno_lexer.specs.declared.token.Token.{Token}
+use Rattle.sno_lexer.specs.declared.token.{Mark.{Mark}, Mark.TheVariants.{Slash, Plus, Dot, Dollar, Ampersand}, Outcome.{Outcome}, Token.{Token}}
+use Rattle.sno_lexer.specs.declared.token.{Outcome.TheVariants.{Success, Failure}, Part.TheVariants.{Equals, Colon, On, Label}}
 use Rattle.sno_lexer.specs.declared.token.TokenKind.TheVariants as token
-use Rattle.sno_expression.specs.Spelling.{spaced}
+use Rattle.sno_expression.specs.{Spelling.{spaced}, Expressions.{Expression, Identifier, Constant, Call, Unary, NoArguments, Omitted, Argument}}
 use Rattle.sno_expression.specs.declared.tree.UnaryOperator.TheVariants as unary
-use Rattle.sno_expression.specs.Expressions.{Expression, Identifier, Constant, Call, Unary, NoArguments, Omitted, Argument}
-use Rattle.sno_statement.specs.declared.fault.Fault.{Fault}
-use Rattle.sno_statement.specs.declared.fault.FaultKind.TheVariants.{MissingBlank, Unfit, NoVariable}
+use Rattle.sno_statement.specs.{declared.fault.Fault.{Fault}, declared.fault.FaultKind.TheVariants.{MissingBlank, Unfit, NoVariable}, inner.Faults.{fault}}
 use Rattle.sno_statement.specs.Statements.{Target, To, Computed, NoGoto, Always, OnSuccess, OnBoth, NullObject, NoBody, Does, Statement, Says}
-use Rattle.sno_statement.specs.inner.Faults.{fault}
 use Rattle.sno_statement.specs.inner.Parsing.{FaultAt, stated, statement_in}
 
 -- tokens, each with whether a blank stands before it, and where it matters whether one follows; every constant is the

@@ -1,13 +1,8 @@
 -- A statement is read exactly where it is spelled, and tokens spell one at the most.
 use Rattle.std.proofs.Common.{◌≡◌, subst, refl}
 use Rattle.std.specs.Prelude.{Some, Result, Ok, Err}
-use Rattle.sno_statement.specs.declared.parser.Refusal.{Refusal}
-use Rattle.sno_statement.specs.Statements.{Statement}
-use Rattle.sno_statement.specs.Spelling.{Spells}
-use Rattle.sno_statement.specs.inner.Parsing.{Stated, States, stated, statement_in}
-use Rattle.sno_statement.specs.Laws.{OneStatement, Taken}
-use Rattle.sno_statement.proofs.Completing.{stated_read}
-use Rattle.sno_statement.proofs.Sound.{statement_sound}
+use Rattle.sno_statement.specs.{declared.parser.Refusal.{Refusal}, Statements.{Statement}, Spelling.{Spells}, Laws.{OneStatement, Taken}}
+use Rattle.sno_statement.{specs.inner.Parsing.{Stated, States, stated, statement_in}, proofs.Completing.{stated_read}, proofs.Sound.{statement_sound}}
 
 -- a statement is the only one that its tokens spell
 pub one_statement : OneStatement

@@ -1,27 +1,15 @@
 -- The fault that is found is the leftmost.
 use Rattle.std.proofs.Common.{arith, ◌≡◌, ℕ, suc, ◌+◌, ◌-◌, ◌<◌, List, [], ◌∷◌, ◌++◌, length, refl, sym, ap, ap₂, ◌∙◌, subst}
 use Rattle.std.specs.Prelude.{Bool, true, false, nat_eq, Option, Some, None, Result, Ok, Err, if◌then◌else◌}
-use Rattle.std.proofs.lemmas.List.{length-append, append_assoc, append-nil}
-use Rattle.std.proofs.lemmas.Bool.Decides.{nat_tests}
-use Rattle.sno_lexer.specs.declared.token.Token.{Token}
-use Rattle.sno_lexer.specs.declared.token.TokenKind.{TokenKind}
-use Rattle.sno_expression.specs.Spelling.{spaced}
-use Rattle.sno_expression.specs.inner.Telling.{most}
-use Rattle.sno_statement.specs.declared.fault.Fault.{Fault}
-use Rattle.sno_statement.specs.declared.fault.FaultKind.{FaultKind}
-use Rattle.sno_statement.specs.declared.fault.FaultKind.TheVariants.{MissingBlank, Unfit, NoVariable}
-use Rattle.sno_statement.specs.declared.parser.Refusal.{Refusal}
-use Rattle.sno_statement.specs.Statements.{Statement}
-use Rattle.sno_statement.specs.Spelling.{Spells}
-use Rattle.sno_statement.specs.Lacking.{lacking_in, StatementHasVariables}
-use Rattle.sno_statement.specs.Faults.{IsSpelled, IsFit, Begins, EndsBefore, Stops as Ends_for, Lacks, Blames, IsLeftmostFault}
-use Rattle.sno_statement.specs.Laws.{FaultIsLeftmost}
-use Rattle.sno_statement.specs.inner.Parsing.{FaultAt, blamed, blame, fault_of, Stated, States, statement_in}
-use Rattle.sno_statement.specs.inner.Faults.{fault}
-use Rattle.sno_expression.proofs.Lacks.{lacks, marked, first_marked, none_lack, lack_none}
-use Rattle.sno_statement.proofs.Completing.{statement_read, all_counted}
+use Rattle.std.proofs.lemmas.{List.{length-append, append_assoc, append-nil}, Bool.Decides.{nat_tests}}
+use Rattle.sno_lexer.specs.declared.token.{Token.{Token}, TokenKind.{TokenKind}}
+use Rattle.sno_expression.{specs.Spelling.{spaced}, specs.inner.Telling.{most}, proofs.Lacks.{lacks, marked, first_marked, none_lack, lack_none}}
+use Rattle.sno_statement.specs.{declared.fault.Fault.{Fault}, declared.fault.FaultKind.{FaultKind}, declared.parser.Refusal.{Refusal}, Statements.{Statement}}
+use Rattle.sno_statement.specs.{declared.fault.FaultKind.TheVariants.{MissingBlank, Unfit, NoVariable}, Spelling.{Spells}, Laws.{FaultIsLeftmost}}
+use Rattle.sno_statement.specs.{Lacking.{lacking_in, StatementHasVariables}, inner.Parsing.{FaultAt, blamed, blame, fault_of, Stated, States, statement_in}}
+use Rattle.sno_statement.specs.{Faults.{IsSpelled, IsFit, Begins, EndsBefore, Stops as Ends_for, Lacks, Blames, IsLeftmostFault}, inner.Faults.{fault}}
+use Rattle.sno_statement.proofs.{Completing.{statement_read, all_counted}, Sound.{statement_sound}}
 use Rattle.sno_statement.proofs.Shapes.{count, later, merged, count_later, count_merged, Shape, Start, run, begun_is, GoesTo, may, Step, Goes, Stops, step, some_goes, Ending, Ends, Unended, ending_of, completes, grows}
-use Rattle.sno_statement.proofs.Sound.{statement_sound}
 
 -- WHERE A READING STANDS
 

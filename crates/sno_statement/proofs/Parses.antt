@@ -2,16 +2,10 @@
 use Rattle.std.proofs.Common.{◌≡◌, ℕ, ◌-◌, length, List, sym, ap, ◌∙◌}
 use Rattle.std.specs.Prelude.{Bool, true, false, nat_eq, Some, None, Ok, Err, if◌then◌else◌}
 use Rattle.sno_lexer.specs.declared.token.Token.{Token}
-use Rattle.sno_statement.specs.declared.fault.Fault.{Fault}
-use Rattle.sno_statement.specs.declared.fault.FaultKind.TheVariants.{NoVariable}
-use Rattle.sno_statement.specs.declared.parser.Refusal.{Refusal}
-use Rattle.sno_statement.specs.declared.statement.Statement.{Statement as AStatement}
-use Rattle.sno_statement.specs.Statements.{Statement}
-use Rattle.sno_statement.specs.Abstraction.{statement_of, Parsed}
+use Rattle.sno_statement.specs.declared.{fault.Fault.{Fault}, fault.FaultKind.TheVariants.{NoVariable}, parser.Refusal.{Refusal}}
+use Rattle.sno_statement.specs.{declared.statement.Statement.{Statement as AStatement}, Statements.{Statement}, Abstraction.{statement_of, Parsed}}
 use Rattle.sno_statement.specs.inner.Parsing.{FaultAt, States, statement_in, blame, fault_of}
-use Rattle.sno_statement.proofs.Grammar.{one_statement}
-use Rattle.sno_statement.proofs.Leftmost.{found, has_variables}
-use Rattle.sno_statement.proofs.Sound.{statement_sound}
+use Rattle.sno_statement.proofs.{Grammar.{one_statement}, Leftmost.{found, has_variables}, Sound.{statement_sound}}
 
 pub is_refused : (ts : List Token) (r : Refusal) (f : Fault) → Err r ≡ statement_in ts → f ≡ blame (length ts) r → Parsed ts (Err f)
 is_refused ts r f e d = found ts f (ap (fault_of (length ts)) (sym e) ∙ ap (λ (x : Fault). Some x) (sym d))

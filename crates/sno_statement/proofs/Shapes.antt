@@ -1,32 +1,20 @@
 -- How a statement is read token by token: what has been read so far makes of the tokens to come what a shape makes of them.
 use Rattle.std.proofs.Common.{arith, ◌≡◌, ℕ, suc, ◌+◌, ◌≤◌, length, List, [], ◌∷◌, ◌++◌, refl, sym, ap, ap₂, ◌∙◌, subst, inl, inr}
 use Rattle.std.specs.Prelude.{Bool, true, false, nat_le, Option, Some, None, is_some, Result, Ok, Err, ◌⊎◌, ◌||◌, ◌&&◌, not, if◌then◌else◌}
-use Rattle.std.proofs.lemmas.Bool.{leb-true}
-use Rattle.std.proofs.lemmas.Bool.Decides.{nat_tests}
-use Rattle.sno_lexer.specs.declared.token.Mark.TheVariants.{Dollar}
-use Rattle.sno_lexer.specs.declared.token.Outcome.{Outcome}
-use Rattle.sno_lexer.specs.declared.token.Outcome.TheVariants.{Success, Failure}
-use Rattle.sno_lexer.specs.declared.token.Part.TheVariants.{Equals, Colon, On, Label}
-use Rattle.sno_lexer.specs.declared.token.Token.{Token}
-use Rattle.sno_lexer.specs.declared.token.TokenKind.{TokenKind}
+use Rattle.std.proofs.lemmas.Bool.{leb-true, Decides.{nat_tests}}
+use Rattle.sno_lexer.specs.declared.token.{Mark.TheVariants.{Dollar}, Outcome.{Outcome}, Outcome.TheVariants.{Success, Failure}, Token.{Token}}
+use Rattle.sno_lexer.specs.declared.token.{Part.TheVariants.{Equals, Colon, On, Label}, TokenKind.{TokenKind}}
 use Rattle.sno_lexer.specs.declared.token.TokenKind.TheVariants as token
-use Rattle.sno_expression.specs.declared.position.Position.{Position}
-use Rattle.sno_expression.specs.declared.position.Position.TheVariants.{AfterBinary, AfterUnary, AfterIdentifier}
-use Rattle.sno_expression.specs.declared.tree.UnaryOperator.TheVariants.{Indirect}
-use Rattle.sno_expression.specs.Expressions.{Expression, Unary}
-use Rattle.sno_expression.specs.Spelling.{spaced}
+use Rattle.sno_expression.specs.declared.position.Position.{Position, TheVariants.{AfterBinary, AfterUnary, AfterIdentifier}}
+use Rattle.sno_expression.specs.{declared.tree.UnaryOperator.TheVariants.{Indirect}, Expressions.{Expression, Unary}, Spelling.{spaced}}
 use Rattle.sno_expression.specs.inner.Reading.{State, Bottom, Begin, Under, Due, At, read, result, start, position, opens_bracket}
 use Rattle.sno_expression.specs.inner.Telling.{most, begins, begins_variable, lack, lack_at, fits_at, Told, Tells, with_lack, then_tell, told, telling}
-use Rattle.sno_statement.specs.declared.parser.Refusal.{Refusal}
-use Rattle.sno_statement.specs.declared.role.Role.{Role}
-use Rattle.sno_statement.specs.declared.role.Role.TheVariants.{Assigns, Goes as Leads_on, Follows, Touches}
+use Rattle.sno_expression.proofs.{Closing.{closing as parenthesis, completion, tail, state_ends}, Loop.{none_most, most_none, most_most, with_none}}
+use Rattle.sno_expression.proofs.{Sound.{sound}, Telling.{taken_fits, fits_taken, starts, begins_any}}
+use Rattle.sno_statement.specs.declared.{parser.Refusal.{Refusal}, role.Role.{Role}, role.Role.TheVariants.{Assigns, Goes as Leads_on, Follows, Touches}}
+use Rattle.sno_statement.proofs.Roles.{goes, assigns, no_colon_follows, indirect_of, follows}
 use Rattle.sno_statement.specs.Statements.{Target, To, Computed, Goto, NoGoto, Always, OnBoth, NoObject, NullObject, ValueObject, Body, NoBody, Does, Statement, Says, may_be_set}
 use Rattle.sno_statement.specs.inner.Parsing.{role, blamed, Aim, Aimed, closing, indirect, computed, inside, target_in, at_last, always, both, on_one, next, chosen, goto_in, Stated, States, going, is_colon, ends_part, ending, ends_by, giving, by_object, object_in, set, by_pattern, pattern_then, matching, by_subject, subject_then, acting, by_first, statement_in}
-use Rattle.sno_expression.proofs.Closing.{closing as parenthesis, completion, tail, state_ends}
-use Rattle.sno_expression.proofs.Loop.{none_most, most_none, most_most, with_none}
-use Rattle.sno_expression.proofs.Sound.{sound}
-use Rattle.sno_expression.proofs.Telling.{taken_fits, fits_taken, starts, begins_any}
-use Rattle.sno_statement.proofs.Roles.{goes, assigns, no_colon_follows, indirect_of, follows}
 
 -- PLACES
 

@@ -1,14 +1,9 @@
 -- Parts of the definitions by names of their own.
-use Rattle.std.specs.Prelude.{◌≡◌, Bool, true, false, not, is_some, List, [], ◌∷◌, Option, MatchOption}
-use Rattle.std.specs.Option.{option_map_or}
-use Rattle.sno_lexer.specs.declared.token.Part.TheVariants.{Colon}
-use Rattle.sno_lexer.specs.declared.token.Token.{Token}
+use Rattle.std.specs.{Prelude.{◌≡◌, Bool, true, false, not, is_some, List, [], ◌∷◌, Option, MatchOption}, Option.{option_map_or}}
+use Rattle.sno_lexer.specs.declared.token.{Part.TheVariants.{Colon}, Token.{Token}}
 use Rattle.sno_lexer.specs.declared.token.TokenKind.TheVariants as token
-use Rattle.sno_expression.specs.Expressions.{Expression}
-use Rattle.sno_expression.specs.Lacking.{lacking}
-use Rattle.sno_expression.specs.Spelling.{spaced, SpellsTo}
-use Rattle.sno_statement.specs.Spelling.{LeadsTo}
-use Rattle.sno_statement.specs.Statements.{Goto, Object, NoObject, may_be_set}
+use Rattle.sno_expression.specs.{Expressions.{Expression}, Lacking.{lacking}, Spelling.{spaced, SpellsTo}}
+use Rattle.sno_statement.specs.{Spelling.{LeadsTo}, Statements.{Goto, Object, NoObject, may_be_set}}
 
 abbrev pub lacking_pattern : Option Expression → List Bool
 lacking_pattern p = option_map_or (lacking false) p []

@@ -1,26 +1,16 @@
 -- What the tokens are read as spells them.
 use Rattle.std.proofs.Common.{◌≡◌, ℕ, length, List, [], ◌∷◌, refl, ap, subst, inl, inr}
 use Rattle.std.specs.Prelude.{Bool, true, false, Option, Some, None, Result, Ok, Err, ◌||◌, if◌then◌else◌}
-use Rattle.sno_lexer.specs.declared.token.Mark.TheVariants.{Dollar}
-use Rattle.sno_lexer.specs.declared.token.Outcome.{Outcome}
-use Rattle.sno_lexer.specs.declared.token.Outcome.TheVariants.{Success, Failure}
-use Rattle.sno_lexer.specs.declared.token.Part.TheVariants.{Equals, Colon, On, Label}
-use Rattle.sno_lexer.specs.declared.token.Token.{Token}
-use Rattle.sno_lexer.specs.declared.token.TokenKind.{TokenKind}
+use Rattle.sno_lexer.specs.declared.token.{Mark.TheVariants.{Dollar}, Outcome.{Outcome}, Outcome.TheVariants.{Success, Failure}, Token.{Token}}
+use Rattle.sno_lexer.specs.declared.token.{Part.TheVariants.{Equals, Colon, On, Label}, TokenKind.{TokenKind}}
 use Rattle.sno_lexer.specs.declared.token.TokenKind.TheVariants as token
-use Rattle.sno_expression.specs.declared.tree.UnaryOperator.TheVariants.{Indirect}
-use Rattle.sno_expression.specs.Expressions.{Expression, Unary, IsOperand}
-use Rattle.sno_expression.specs.Spelling.{spaced, SpellsTo}
-use Rattle.sno_expression.specs.inner.Telling.{most, begins, Told, Tells, telling}
-use Rattle.sno_statement.specs.declared.parser.Refusal.{Refusal}
-use Rattle.sno_statement.specs.declared.role.Role.{Role}
-use Rattle.sno_statement.specs.declared.role.Role.TheVariants.{Assigns, Goes, Follows, Touches}
-use Rattle.sno_statement.specs.Statements.{Target, To, Computed, Goto, NoGoto, Always, OnSuccess, OnFailure, OnBoth, NoObject, NullObject, ValueObject, Body, NoBody, Does, Statement, Says}
+use Rattle.sno_expression.specs.{declared.tree.UnaryOperator.TheVariants.{Indirect}, Expressions.{Expression, Unary, IsOperand}}
+use Rattle.sno_expression.{specs.Spelling.{spaced, SpellsTo}, specs.inner.Telling.{most, begins, Told, Tells, telling}, proofs.Sound.{IsRead, sound}}
+use Rattle.sno_statement.specs.declared.{parser.Refusal.{Refusal}, role.Role.{Role}, role.Role.TheVariants.{Assigns, Goes, Follows, Touches}}
 use Rattle.sno_statement.specs.Spelling.{TargetTo, OutcomeTo, LeadsTo, GotoTo, BodyTo, Spells}
+use Rattle.sno_statement.proofs.{Roles.{goes, assigns, blank_spells}, Shorthand.{PatternTo}}
+use Rattle.sno_statement.specs.Statements.{Target, To, Computed, Goto, NoGoto, Always, OnSuccess, OnFailure, OnBoth, NoObject, NullObject, ValueObject, Body, NoBody, Does, Statement, Says}
 use Rattle.sno_statement.specs.inner.Parsing.{role, blamed, Aim, Aimed, closed_by, closing, computed, inside_by, inside, target_by, target_in, Way, Leads, at_last, always, both, next_by, next, chosen, goto_by, goto_in, Stated, States, going, is_colon, ends_part, ends_by, ending, giving, by_object, object_in, set, by_pattern, pattern_then, matching, by_subject, subject_then, acting, by_first, statement_in}
-use Rattle.sno_expression.proofs.Sound.{IsRead, sound}
-use Rattle.sno_statement.proofs.Roles.{goes, assigns, blank_spells}
-use Rattle.sno_statement.proofs.Shorthand.{PatternTo}
 
 abbrev AimRight : Result Aim Refusal → List Token → Type 0
 AimRight (Err r) ts = Unit {0}

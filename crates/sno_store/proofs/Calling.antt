@@ -1,19 +1,11 @@
 -- Values for a call, and how it begins and ends.
 use Rattle.std.proofs.Common.{◌≡◌, ℕ, zero, suc, ◌+◌, List, [], ◌∷◌, ◌++◌, length, take, slice_get, reverse, ◌<◌, ◌≤◌, refl, sym, ap, ap₂, ◌∙◌, arith}
-use Rattle.std.proofs.lemmas.List.{length-append, length-take, reverse-append}
-use Rattle.std.specs.Prelude.{unwrap_or}
-use Rattle.sno_value.specs.declared.value.Value.{Value}
-use Rattle.sno_value.specs.Values.{null}
-use Rattle.sno_declarations.specs.declared.prototype.Prototype.{Prototype}
-use Rattle.sno_declarations.specs.Prototypes.{names_of}
-use Rattle.sno_declarations.specs.declared.definition.Definition.{Definition}
-use Rattle.sno_variables.specs.Variables.{Variables, value_of}
-use Rattle.sno_variables.specs.Bindings.{Bindings, paired, assigned}
-use Rattle.sno_variables.specs.inner.Exchanging.{values_now}
+use Rattle.std.{proofs.lemmas.List.{length-append, length-take, reverse-append}, specs.Prelude.{unwrap_or}}
+use Rattle.sno_value.specs.{declared.value.Value.{Value}, Values.{null}}
+use Rattle.sno_declarations.specs.{declared.prototype.Prototype.{Prototype}, Prototypes.{names_of}, declared.definition.Definition.{Definition}}
+use Rattle.sno_variables.specs.{Variables.{Variables, value_of}, Bindings.{Bindings, paired, assigned}, inner.Exchanging.{values_now}}
 use Rattle.sno_variables.proofs.Exchanged.{saved_pairs, length_now}
-use Rattle.sno_store.specs.CallFrames.{CallFrame}
-use Rattle.sno_store.specs.Calls.{bindings_of, level_with}
-use Rattle.sno_store.specs.inner.Filling.{fitted, values_for}
+use Rattle.sno_store.specs.{CallFrames.{CallFrame}, Calls.{bindings_of, level_with}, inner.Filling.{fitted, values_for}}
 
 -- VALUES FOR A CALL
 

@@ -1,8 +1,6 @@
 -- Functions that were defined with names that no program has to define.
 use Rattle.std.proofs.Common.{◌≡◌, ℕ, Bool, true, false, cond, List, [], ◌∷◌, Some, None, refl, sym, ap, ◌∙◌, nat_eq, true≢false}
-use Rattle.std.specs.Prelude.{◌||◌, if◌then◌else◌}
-use Rattle.std.specs.Map.{lookup}
-use Rattle.std.specs.Cmp.Lexicographic.{pointwise, bytes_decides}
+use Rattle.std.specs.{Prelude.{◌||◌, if◌then◌else◌}, Map.{lookup}, Cmp.Lexicographic.{pointwise, bytes_decides}}
 use Rattle.indexmap.specs.IndexMap.{insert_entry}
 use Rattle.sno_declarations.specs.declared.definition.Definition.{Definition}
 use Rattle.sno_store.specs.Callees.{is_built_in, any_built_in}

@@ -1,13 +1,9 @@
 -- The innermost call ends.
 use Rattle.std.proofs.Common.{◌≡◌, ℕ, List, [], ◌∷◌, drop, None, Some, refl, sym, ap}
 use Rattle.sno_value.specs.Values.{null}
-use Rattle.sno_store.specs.CallFrames.{CallFrame}
-use Rattle.sno_store.specs.declared.store.Store.{Store as State}
-use Rattle.sno_variables.specs.Variables.{Variables}
-use Rattle.sno_variables.specs.Bindings.{assigned}
-use Rattle.sno_store.specs.Calls.{saved_by, statement_of, call_left, given_back}
-use Rattle.sno_store.specs.inner.Parts.{value_given}
-use Rattle.sno_store.proofs.Left.{left_by}
+use Rattle.sno_store.specs.{CallFrames.{CallFrame}, declared.store.Store.{Store as State}, Calls.{saved_by, statement_of, call_left, given_back}}
+use Rattle.sno_store.{specs.inner.Parts.{value_given}, proofs.Left.{left_by}}
+use Rattle.sno_variables.specs.{Variables.{Variables}, Bindings.{assigned}}
 
 left_to : (s : State) (levels : List CallFrame) (n : ℕ) → Some n ≡ statement_of levels
     → record s { variables = assigned (saved_by levels) s.variables; keywords = record (s.keywords) { statement = n }; levels = drop 1 levels } ≡ left_by levels s

@@ -1,8 +1,7 @@
 -- What the innermost call leaves, by whether there is one.
 use Rattle.std.specs.Prelude.{List, [], ◌∷◌}
 use Rattle.sno_variables.specs.Bindings.{assigned}
-use Rattle.sno_store.specs.CallFrames.{CallFrame}
-use Rattle.sno_store.specs.declared.store.Store.{Store as State}
+use Rattle.sno_store.specs.{CallFrames.{CallFrame}, declared.store.Store.{Store as State}}
 
 abbrev pub left_by : List CallFrame → State → State
 left_by frames s = elim frames [

@@ -2,18 +2,12 @@
 use Rattle.std.proofs.Common.{◌≡◌, Bool, true, false, List, [], ◌∷◌, drop, refl, Ok, Err}
 use Rattle.std.specs.Prelude.{Result, ok_or, if◌then◌else◌}
 use Rattle.sno_text.specs.declared.fault.Fault.{Fault}
-use Rattle.sno_value.specs.Values.{number_of}
-use Rattle.sno_value.specs.declared.value.Value.{Value}
+use Rattle.sno_value.specs.{Values.{number_of}, declared.value.Value.{Value}}
 use Rattle.sno_text.specs.declared.fault.Fault.TheVariants as fault
-use Rattle.sno_declarations.specs.Arguments.{go_on, name_in, input_in, output_in}
-use Rattle.sno_declarations.specs.Definitions.{definition_in}
-use Rattle.sno_store.specs.declared.keyword.Keyword.{Keyword}
-use Rattle.sno_store.specs.CallFrames.{CallFrame}
-use Rattle.sno_store.specs.declared.store.Store.{Store as State}
-use Rattle.sno_store.specs.Keywords.{is_settable, with_keyword}
-use Rattle.sno_store.specs.States.{with_keyword_set}
+use Rattle.sno_declarations.specs.{Arguments.{go_on, name_in, input_in, output_in}, Definitions.{definition_in}}
+use Rattle.sno_store.specs.{declared.keyword.Keyword.{Keyword}, CallFrames.{CallFrame}, declared.store.Store.{Store as State}, States.{with_keyword_set}}
+use Rattle.sno_store.specs.{Keywords.{is_settable, with_keyword}, Laws.{KeepsLevels, LevelsStay, CallsNest}}
 use Rattle.sno_store.proofs.Left.{left_by}
-use Rattle.sno_store.specs.Laws.{KeepsLevels, LevelsStay, CallsNest}
 
 behind : {A : Type 0} (s : State) (r : Result A Fault) (go : A → Result State Fault) → ((a : A) → KeepsLevels s (go a)) → KeepsLevels s (go_on r go)
 behind s (Ok a) go keeps = keeps a

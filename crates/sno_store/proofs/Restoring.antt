@@ -1,10 +1,8 @@
 -- What a call saved is there again.
 use Rattle.std.proofs.Common.{ap, ◌∙◌}
 use Rattle.sno_declarations.specs.Prototypes.{names_of}
-use Rattle.sno_variables.specs.Variables.{value_of}
-use Rattle.sno_variables.proofs.Assigned.{restores, leaves}
-use Rattle.sno_store.proofs.Left.{left_by}
-use Rattle.sno_store.specs.Laws.{CallRestores, CallLeavesOthers}
+use Rattle.sno_variables.{specs.Variables.{value_of}, proofs.Assigned.{restores, leaves}}
+use Rattle.sno_store.{proofs.Left.{left_by}, specs.Laws.{CallRestores, CallLeavesOthers}}
 
 pub call_restores : CallRestores
 call_restores = λ d arguments s t name same_levels among.

@@ -1,16 +1,10 @@
 -- What stands behind a label is what the token stage gives.
 use Rattle.std.proofs.Common.{◌≡◌, List, length, Result, Ok, Err, sym, ap, subst}
-use Rattle.sno_cards.specs.declared.refusal.SyntaxError.{SyntaxError}
-use Rattle.sno_cards.specs.Texts.{Placed, text_of}
-use Rattle.sno_lexer.specs.declared.fault.LexFault.{LexFault}
-use Rattle.sno_lexer.specs.Listed.{TokenList}
-use Rattle.sno_lexer.specs.Lexed.{lexed}
-use Rattle.sno_lexer.proofs.Once.{nothing_else_tells_it}
-use Rattle.sno_lexer.proofs.Telling.{tokens_tell_the_text}
+use Rattle.sno_cards.specs.{declared.refusal.SyntaxError.{SyntaxError}, Texts.{Placed, text_of}}
+use Rattle.sno_lexer.specs.{declared.fault.LexFault.{LexFault}, Listed.{TokenList}, Lexed.{lexed}}
+use Rattle.sno_lexer.proofs.{Once.{nothing_else_tells_it}, Telling.{tokens_tell_the_text}}
 use Rattle.sno_statement.specs.Statements.{Statement}
-use Rattle.sno_syntax.specs.Refusals.{label_of, with_place, tokens_of, HasTokens}
-use Rattle.sno_syntax.specs.Programs.{TextSpells}
-use Rattle.sno_syntax.specs.inner.Tokens.{AreTokensOf}
+use Rattle.sno_syntax.specs.{Refusals.{label_of, with_place, tokens_of, HasTokens}, Programs.{TextSpells}, inner.Tokens.{AreTokensOf}}
 
 -- what the token stage gives
 abbrev pub given : List Placed → Result TokenList LexFault

@@ -3,9 +3,7 @@ use Rattle.std.proofs.Common.{◌≡◌, ◌<◌, ◌+◌, ℕ, Bool, true, fals
 use Rattle.std.proofs.lemmas.List.{at_drop_more, get_or-map}
 use Rattle.mon_text.specs.Characters.{is_blank}
 use Rattle.sno_cards.specs.Texts.{Placed, text_of}
-use Rattle.sno_syntax.specs.Places.{nowhere, place_at, next_to}
-use Rattle.sno_syntax.specs.inner.Ends.{place_after}
-use Rattle.sno_syntax.proofs.Shorthand.{end_after, end_from}
+use Rattle.sno_syntax.{specs.Places.{nowhere, place_at, next_to}, specs.inner.Ends.{place_after}, proofs.Shorthand.{end_after, end_from}}
 
 blank : Placed
 blank = record { code = 32; place = nowhere }

@@ -1,19 +1,11 @@
 -- The refusal of a statement is that of its leftmost fault.
 use Rattle.std.proofs.Common.{◌≡◌, List, Option, Some, None, Result, Ok, Err, refl, sym, ap, ◌∙◌, inl, inr}
 use Rattle.std.specs.Prelude.{option_map}
-use Rattle.sno_cards.specs.declared.refusal.SyntaxCode.{SyntaxCode}
-use Rattle.sno_cards.specs.declared.refusal.SyntaxError.{SyntaxError}
-use Rattle.sno_cards.specs.Texts.{Placed}
-use Rattle.sno_lexer.specs.declared.fault.LexFault.{LexFault}
-use Rattle.sno_lexer.specs.Listed.{TokenList}
-use Rattle.sno_statement.specs.declared.fault.Fault.{Fault}
-use Rattle.sno_statement.specs.inner.Faults.{fault}
-use Rattle.sno_statement.proofs.Leftmost.{found, is_found}
-use Rattle.sno_syntax.specs.Labels.{label_fault}
+use Rattle.sno_cards.specs.{declared.refusal.SyntaxCode.{SyntaxCode}, declared.refusal.SyntaxError.{SyntaxError}, Texts.{Placed}}
+use Rattle.sno_lexer.specs.{declared.fault.LexFault.{LexFault}, Listed.{TokenList}}
+use Rattle.sno_statement.{specs.declared.fault.Fault.{Fault}, specs.inner.Faults.{fault}, proofs.Leftmost.{found, is_found}}
+use Rattle.sno_syntax.{specs.Labels.{label_fault}, specs.Laws.{RefusedExactly}, proofs.Behind.{given, given_stands, only_given}, proofs.Shorthand.{IsRefusedBy}}
 use Rattle.sno_syntax.specs.Refusals.{fault_refusal, stage_refusal, with_place, tokens_of, label_of, label_first, HasTokens, IsRefusedBehind}
-use Rattle.sno_syntax.specs.Laws.{RefusedExactly}
-use Rattle.sno_syntax.proofs.Behind.{given, given_stands, only_given}
-use Rattle.sno_syntax.proofs.Shorthand.{IsRefusedBy}
 
 behind : (text : List Placed) (r : Result TokenList LexFault) (e : SyntaxError) → HasTokens text r → stage_refusal text (with_place text r) ≡ Some e
     → IsRefusedBehind text e

@@ -1,25 +1,14 @@
 -- Cards that spell a program are read as it, and cards that are not refused spell one.
 use Rattle.std.proofs.Common.{◌≡◌, ◌+◌, ℕ, List, [], ◌∷◌, Option, Some, None, Result, Ok, Err, refl, sym, ap, ◌∙◌}
-use Rattle.std.specs.Prelude.{option_map}
-use Rattle.std.specs.Option.{option_or}
-use Rattle.sno_cards.specs.declared.refusal.SyntaxCode.{SyntaxCode}
-use Rattle.sno_cards.specs.declared.refusal.SyntaxError.{SyntaxError}
-use Rattle.sno_cards.specs.Texts.{Placed}
-use Rattle.sno_lexer.specs.declared.fault.LexFault.{LexFault}
-use Rattle.sno_lexer.specs.Listed.{TokenList}
-use Rattle.sno_statement.specs.Statements.{Statement}
-use Rattle.sno_statement.specs.declared.fault.Fault.{Fault}
-use Rattle.sno_statement.specs.inner.Faults.{fault}
-use Rattle.sno_statement.proofs.Completing.{stated_read}
-use Rattle.sno_statement.proofs.Leftmost.{none_fit}
-use Rattle.sno_syntax.specs.declared.start.Start.{Start}
-use Rattle.sno_syntax.specs.Labels.{LabelList, label_fault}
-use Rattle.sno_syntax.specs.Refusals.{label_of, tokens_of, with_label, labels_in, start_in, end_refusal, fault_refusal, with_place, HasTokens, stage_refusal, label_first, statement_refusal, statements_refusal}
-use Rattle.sno_syntax.specs.Programs.{TextSpells, SpellFrom}
-use Rattle.sno_syntax.specs.Reading.{statement_on, statement_before, all_statements, program_by}
-use Rattle.sno_syntax.specs.Laws.{ReadsPrograms, SpellsOne}
-use Rattle.sno_syntax.specs.inner.Tokens.{AreTokensOf}
+use Rattle.std.specs.{Prelude.{option_map}, Option.{option_or}}
+use Rattle.sno_cards.specs.{declared.refusal.SyntaxCode.{SyntaxCode}, declared.refusal.SyntaxError.{SyntaxError}, Texts.{Placed}}
+use Rattle.sno_lexer.specs.{declared.fault.LexFault.{LexFault}, Listed.{TokenList}}
+use Rattle.sno_statement.specs.{Statements.{Statement}, declared.fault.Fault.{Fault}, inner.Faults.{fault}}
+use Rattle.sno_statement.proofs.{Completing.{stated_read}, Leftmost.{none_fit}}
+use Rattle.sno_syntax.specs.{declared.start.Start.{Start}, Labels.{LabelList, label_fault}, Programs.{TextSpells, SpellFrom}, Laws.{ReadsPrograms, SpellsOne}}
+use Rattle.sno_syntax.specs.{Reading.{statement_on, statement_before, all_statements, program_by}, inner.Tokens.{AreTokensOf}}
 use Rattle.sno_syntax.proofs.Behind.{given, given_stands, tokens_spell}
+use Rattle.sno_syntax.specs.Refusals.{label_of, tokens_of, with_label, labels_in, start_in, end_refusal, fault_refusal, with_place, HasTokens, stage_refusal, label_first, statement_refusal, statements_refusal}
 
 statement_spelled : (s : Statement) (tokens : Result TokenList SyntaxError) → AreTokensOf s tokens → statement_on tokens ≡ Some s
 statement_spelled s (Ok list) a = stated_read s list.tokens a.1

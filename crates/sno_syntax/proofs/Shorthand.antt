@@ -1,13 +1,9 @@
 -- Parts of the definitions by names of their own.
-use Rattle.std.specs.Prelude.{◌≡◌, ℕ, List, Option, MatchOption, if◌then◌else◌}
-use Rattle.std.specs.List.{fold}
+use Rattle.std.specs.{Prelude.{◌≡◌, ℕ, List, Option, MatchOption, if◌then◌else◌}, List.{fold}}
 use Rattle.mon_text.specs.Characters.{is_blank}
-use Rattle.sno_cards.specs.declared.refusal.Place.{Place}
-use Rattle.sno_cards.specs.declared.refusal.SyntaxError.{SyntaxError}
-use Rattle.sno_cards.specs.declared.refusal.SyntaxCode.{SyntaxCode}
+use Rattle.sno_cards.specs.declared.refusal.{Place.{Place}, SyntaxError.{SyntaxError}, SyntaxCode.{SyntaxCode}}
 use Rattle.sno_cards.specs.Texts.{Placed}
-use Rattle.sno_syntax.specs.Places.{next_to, place_at, refused_with}
-use Rattle.sno_syntax.specs.Refusals.{IsRefusedBehind}
+use Rattle.sno_syntax.specs.{Places.{next_to, place_at, refused_with}, Refusals.{IsRefusedBehind}}
 
 -- the place after the last character that is no blank, where one more character stands at a place
 abbrev pub end_after : Place → ℕ → Place → Place

@@ -1,21 +1,13 @@
 -- One statement after the other.
 use Rattle.std.proofs.Common.{◌≡◌, ◌+◌, ℕ, List, [], ◌∷◌, ◌++◌, drop, map, None, Result, Ok, Err, sym, ap, ◌∙◌, subst, append-nil}
-use Rattle.std.specs.Prelude.{option_map}
-use Rattle.std.specs.Option.{option_or}
-use Rattle.std.proofs.lemmas.List.{map-append}
+use Rattle.std.{specs.Prelude.{option_map}, specs.Option.{option_or}, proofs.lemmas.List.{map-append}}
 use Rattle.std.proofs.Common.{append_assoc}
-use Rattle.sno_cards.specs.declared.refusal.SyntaxError.{SyntaxError}
-use Rattle.sno_cards.specs.Texts.{Placed}
+use Rattle.sno_cards.specs.{declared.refusal.SyntaxError.{SyntaxError}, Texts.{Placed}}
 use Rattle.sno_lexer.specs.Listed.{TokenList}
-use Rattle.sno_statement.specs.Statements.{Statement}
-use Rattle.sno_statement.specs.Abstraction.{statement_of}
-use Rattle.sno_statement.specs.declared.statement.Statement.{Statement as AStatement}
-use Rattle.sno_syntax.specs.Labels.{LabelList}
-use Rattle.sno_syntax.specs.Refusals.{label_of, tokens_of, label_first, fault_refusal, stage_refusal, statement_refusal, with_label, statements_refusal, labels_from}
-use Rattle.sno_syntax.specs.Programs.{SpellsBehind, SpellFrom}
-use Rattle.sno_syntax.specs.inner.Tokens.{AreTokensOf}
-use Rattle.sno_syntax.proofs.Behind.{tokens_spell}
+use Rattle.sno_statement.specs.{Statements.{Statement}, Abstraction.{statement_of}, declared.statement.Statement.{Statement as AStatement}}
 use Rattle.sno_statement.proofs.Leftmost.{fit_none}
+use Rattle.sno_syntax.{specs.Labels.{LabelList}, specs.Programs.{SpellsBehind, SpellFrom}, specs.inner.Tokens.{AreTokensOf}, proofs.Behind.{tokens_spell}}
+use Rattle.sno_syntax.specs.Refusals.{label_of, tokens_of, label_first, fault_refusal, stage_refusal, statement_refusal, with_label, statements_refusal, labels_from}
 
 -- what spells a statement is not refused
 pub clean : (text : List Placed) (s : Statement) (tokens : Result TokenList SyntaxError) → AreTokensOf s tokens → stage_refusal text tokens ≡ None

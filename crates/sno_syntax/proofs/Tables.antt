@@ -1,8 +1,6 @@
 -- Labels in a table whose keys are texts.
 use Rattle.std.proofs.Common.{◌≡◌, ℕ, Bool, true, false, List, [], ◌∷◌, Some, slice_get, map, if◌then◌else◌, zero, suc, refl, sym, ap, ◌∙◌}
-use Rattle.std.specs.Prelude.{Vec, bytes_eq, option_map}
-use Rattle.std.specs.Map.{lookup}
-use Rattle.std.specs.Cmp.Lexicographic.{bytes_decides}
+use Rattle.std.specs.{Prelude.{Vec, bytes_eq, option_map}, Map.{lookup}, Cmp.Lexicographic.{bytes_decides}}
 use Rattle.indexmap.specs.IndexMap.{insert_entry}
 use Rattle.sno_syntax.specs.Labels.{LabelList}
 

@@ -1,19 +1,12 @@
 -- Whole programs: that cards spell at most one, and that none is refused.
 use Rattle.std.proofs.Common.{◌≡◌, ◌+◌, ℕ, List, [], ◌∷◌, Some, None, Result, Ok, Err, refl, sym, ap, ◌∙◌}
 use Rattle.std.specs.Option.{option_or}
-use Rattle.sno_cards.specs.declared.refusal.SyntaxError.{SyntaxError}
-use Rattle.sno_cards.specs.Programs.{ProgramText}
-use Rattle.sno_cards.specs.Texts.{Placed}
+use Rattle.sno_cards.specs.{declared.refusal.SyntaxError.{SyntaxError}, Programs.{ProgramText}, Texts.{Placed}}
 use Rattle.sno_lexer.specs.Listed.{TokenList}
-use Rattle.sno_statement.specs.Statements.{Statement}
-use Rattle.sno_syntax.specs.declared.start.Start.{Start}
-use Rattle.sno_syntax.specs.Labels.{LabelList}
-use Rattle.sno_syntax.specs.Refusals.{label_of, tokens_of, with_label, statements_refusal, start_in, end_refusal, syntax_refusal}
-use Rattle.sno_syntax.specs.Programs.{Program, SpellsBehind, SpellFrom, IsProgram}
-use Rattle.sno_syntax.specs.inner.Tokens.{AreTokensOf}
-use Rattle.sno_syntax.proofs.Behind.{tokens_spell}
-use Rattle.sno_statement.proofs.Grammar.{one_statement}
-use Rattle.sno_syntax.proofs.Spelled.{no_refusal}
+use Rattle.sno_statement.{specs.Statements.{Statement}, proofs.Grammar.{one_statement}}
+use Rattle.sno_syntax.specs.{declared.start.Start.{Start}, Labels.{LabelList}, Programs.{Program, SpellsBehind, SpellFrom, IsProgram}}
+use Rattle.sno_syntax.specs.{Refusals.{label_of, tokens_of, with_label, statements_refusal, start_in, end_refusal, syntax_refusal}, inner.Tokens.{AreTokensOf}}
+use Rattle.sno_syntax.proofs.{Behind.{tokens_spell}, Spelled.{no_refusal}}
 
 one_of_tokens : (s t : Statement) (tokens : Result TokenList SyntaxError) → AreTokensOf s tokens → AreTokensOf t tokens → s ≡ t
 one_of_tokens s t (Err f) a b = absurd a

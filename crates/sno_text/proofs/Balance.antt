@@ -2,9 +2,7 @@
 use Rattle.std.specs.Prelude.{ℕ, zero, suc, ◌+◌, ◌-◌, ◌≤◌, List, [], ◌∷◌, length, take, drop, Bool, true, false, cond, if◌then◌else◌, nat_eq, Option, Some, None}
 use Rattle.std.proofs.Common.{◌≡◌, refl, sym, ap, ◌∙◌, arith, length-drop, get_or, drop-cons, add-one, ◌<◌, ◌≢◌, subst}
 use Rattle.std.specs.List.{filter, range_with_len}
-use Rattle.sno_text.specs.Balance.{part, balanced_ends}
-use Rattle.sno_text.specs.inner.Reaching.{closes, open_after}
-use Rattle.sno_text.proofs.Pairs.{pairs_close}
+use Rattle.sno_text.{specs.Balance.{part, balanced_ends}, specs.inner.Reaching.{closes, open_after}, proofs.Pairs.{pairs_close}}
 
 -- the ends after c of parts that pass the test, where these characters follow c
 abbrev pub ends_where : (List ℕ → Bool) → ℕ → List ℕ → List ℕ

@@ -1,12 +1,8 @@
 -- Bits tell the characters before one, and then that one too.
 use Rattle.std.proofs.Common.{◌≡◌, ℕ, zero, suc, ◌+◌, ◌*◌, ◌/◌, ◌%◌, ◌^◌, ◌<◌, Bool, true, false, ◌&&◌, ◌||◌, eqb, List, [], ◌∷◌, length, take, get_or, set, refl, sym, ap, ◌∙◌, inl, inr, arith, length-set, get_or-set_same, get_or-set_other, eq-eqb, ne_eqb, w64, bit_or}
 use Rattle.std.specs.Int.{bit_at}
-use Rattle.std.proofs.lemmas.Bool.{cases_eq}
-use Rattle.std.proofs.lemmas.Bool.Decides.{nat_tests}
-use Rattle.std.proofs.lemmas.List.Folds.{list_any_more}
-use Rattle.std.proofs.lemmas.Nat.Bits.{bit_at_set_same, bit_at_set_other}
-use Rattle.mon_text.specs.Characters.{is_printable}
-use Rattle.mon_text.specs.Lines.{IsLine}
+use Rattle.std.proofs.lemmas.{Bool.{cases_eq}, Bool.Decides.{nat_tests}, List.Folds.{list_any_more}, Nat.Bits.{bit_at_set_same, bit_at_set_other}}
+use Rattle.mon_text.specs.{Characters.{is_printable}, Lines.{IsLine}}
 use Rattle.sno_text.specs.inner.Classes.{has_bit, Tells}
 
 or_true : (a b : Bool) → b ≡ true → true ≡ (a || b)

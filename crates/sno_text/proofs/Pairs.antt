@@ -1,11 +1,8 @@
 -- Parentheses in pairs: what is counted is what is told character by character.
 use Rattle.std.proofs.Common.{arith, ◌≡◌, ℕ, zero, suc, ◌+◌, ◌≤◌, ◌<◌, List, [], ◌∷◌, refl, sym, ap, ◌∙◌, length, take_all}
-use Rattle.std.specs.Prelude.{Bool, true, false, ◌&&◌, take, nat_eq, nat_le, if◌then◌else◌, cond}
-use Rattle.std.specs.List.{filter, list_all, range_with_len}
-use Rattle.std.proofs.lemmas.Bool.{eqb-true}
-use Rattle.std.proofs.lemmas.Bool.Decides.{nat_tests}
-use Rattle.sno_text.specs.Balance.{times, in_pairs}
-use Rattle.sno_text.specs.inner.Reaching.{closes}
+use Rattle.std.specs.{Prelude.{Bool, true, false, ◌&&◌, take, nat_eq, nat_le, if◌then◌else◌, cond}, List.{filter, list_all, range_with_len}}
+use Rattle.std.proofs.lemmas.Bool.{eqb-true, Decides.{nat_tests}}
+use Rattle.sno_text.specs.{Balance.{times, in_pairs}, inner.Reaching.{closes}}
 
 -- so many `(` more than `)`, of which the text opens all but k, and no beginning of it has k more `)` than `(`
 abbrev InPairs : ℕ → List ℕ → Type 0

@@ -1,12 +1,8 @@
 -- What is made of texts of ASCII 32 to 126 is one.
 use Rattle.std.proofs.Common.{◌≡◌, ℕ, zero, suc, ℤ, pos, negsuc, Bool, true, false, ◌&&◌, ◌+◌, ◌%◌, ◌^◌, ◌<◌, List, [], ◌∷◌, ◌++◌, take, drop, refl, ap, ◌∙◌, arith}
-use Rattle.std.specs.Fmt.{decimal, signed_decimal}
-use Rattle.std.specs.Int.Signed.{mag}
-use Rattle.std.proofs.lemmas.Fmt.{decimal_by_steps}
-use Rattle.std.proofs.lemmas.List.Folds.{list_all-append}
-use Rattle.std.proofs.lemmas.Bool.Decides.{nat_tests}
-use Rattle.mon_text.specs.Characters.{is_printable}
-use Rattle.mon_text.specs.Lines.{IsLine, is_line}
+use Rattle.std.specs.{Fmt.{decimal, signed_decimal}, Int.Signed.{mag}}
+use Rattle.std.proofs.lemmas.{Fmt.{decimal_by_steps}, List.Folds.{list_all-append}, Bool.Decides.{nat_tests}}
+use Rattle.mon_text.specs.{Characters.{is_printable}, Lines.{IsLine, is_line}}
 
 both : (a b : Bool) → a ≡ true → b ≡ true → (a && b) ≡ true
 both a b h k = ap (λ (x : Bool). x && b) h ∙ k

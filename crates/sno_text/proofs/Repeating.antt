@@ -1,10 +1,8 @@
 -- A text so many times, and once more.
 use Rattle.std.proofs.Common.{◌≡◌, ℕ, zero, suc, ◌*◌, ◌+◌, ◌<◌, ◌≤◌, List, [], ◌∷◌, ◌++◌, length, arith, refl, sym, ap, ◌∙◌, append_assoc, append-nil, length-append}
-use Rattle.std.proofs.Math.Nat.{suc-mul}
-use Rattle.std.proofs.lemmas.Nat.{mul-le}
+use Rattle.std.{proofs.Math.Nat.{suc-mul}, proofs.lemmas.Nat.{mul-le}, specs.List.{repeat}}
 use Rattle.mon_text.specs.Lines.{IsLine}
 use Rattle.sno_text.proofs.Printable.{line_of_join}
-use Rattle.std.specs.List.{repeat}
 
 pub repeated_null : (n : ℕ) → repeat {A = ℕ} n [] ≡ []
 repeated_null zero = refl

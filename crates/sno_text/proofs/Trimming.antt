@@ -1,8 +1,6 @@
 -- The blanks at the end, one after the other.
 use Rattle.std.proofs.Common.{◌≡◌, ℕ, zero, suc, ◌+◌, ◌-◌, ◌<◌, ◌≤◌, Bool, true, false, ◌≢◌, List, [], ◌∷◌, ◌++◌, length, get_or, take, refl, sym, ap, ◌∙◌, subst, arith}
-use Rattle.std.specs.Prelude.{if◌then◌else◌}
-use Rattle.std.proofs.lemmas.List.{take_more, take_all}
-use Rattle.std.proofs.lemmas.Bool.Decides.{nat_tests}
+use Rattle.std.{specs.Prelude.{if◌then◌else◌}, proofs.lemmas.List.{take_more, take_all}, proofs.lemmas.Bool.Decides.{nat_tests}}
 use Rattle.mon_text.specs.Characters.{is_blank}
 use Rattle.sno_text.specs.Texts.{without_trailing_blanks}
 

@@ -1,9 +1,7 @@
 -- Short texts that one word tells are the same.
 use Rattle.std.proofs.Common.{◌≡◌, ◌≢◌, ℕ, zero, suc, Bool, true, false, ◌&&◌, ◌+◌, ◌*◌, ◌<◌, ◌≤◌, List, [], ◌∷◌, length, drop, get_or, refl, sym, ap, ◌∙◌, arith, nat_eq}
-use Rattle.std.specs.Cmp.Lexicographic.{pointwise, bytes_decides}
-use Rattle.std.proofs.lemmas.Bool.Decides.{nat_tests}
-use Rattle.mon_text.specs.Characters.{is_printable}
-use Rattle.mon_text.specs.Lines.{IsLine}
+use Rattle.std.{specs.Cmp.Lexicographic.{pointwise, bytes_decides}, proofs.lemmas.Bool.Decides.{nat_tests}}
+use Rattle.mon_text.specs.{Characters.{is_printable}, Lines.{IsLine}}
 use Rattle.sno_text.specs.inner.Words.{told, Tells}
 
 small : (c : ℕ) → is_printable c ≡ true → c < 256

@@ -1,19 +1,13 @@
 -- The definitions at worked cases.
 use Rattle.std.proofs.Common.{◌≡◌, [], ◌∷◌, refl, pos, negsuc, codes}
-use Rattle.std.specs.Prelude.{Some, None}
-use Rattle.std.specs.Fmt.{digits}
+use Rattle.std.specs.{Prelude.{Some, None}, Fmt.{digits}}
 use Rattle.sno_text.specs.Patterns as pattern
 use Rattle.sno_text.specs.declared.fault.Fault.TheVariants.{WrongType, Arithmetic, Null, Negative, Length}
-use Rattle.sno_value.specs.declared.value.Value.TheVariants.{Text, Integer, Pattern, Unevaluated}
-use Rattle.sno_value.specs.declared.outcome.Outcome.TheVariants.{Gives, Fails, Faults}
-use Rattle.sno_value.specs.declared.calculating.Operation.TheVariants.{Quotient, Power}
-use Rattle.sno_value.specs.declared.primitive.Comparison.TheVariants.{Less}
-use Rattle.sno_value.specs.declared.primitive.NumberPattern.TheVariants.{Len}
-use Rattle.sno_value.specs.declared.primitive.CharacterPattern.TheVariants.{Span}
+use Rattle.sno_value.specs.declared.{value.Value.TheVariants.{Text, Integer, Pattern, Unevaluated}, outcome.Outcome.TheVariants.{Gives, Fails, Faults}}
+use Rattle.sno_value.specs.declared.{calculating.Operation.TheVariants.{Quotient, Power}, primitive.Comparison.TheVariants.{Less}}
+use Rattle.sno_value.specs.declared.primitive.{NumberPattern.TheVariants.{Len}, CharacterPattern.TheVariants.{Span}}
+use Rattle.sno_value.specs.{Values.{null, number_of}, Operators.{concatenation, arithmetic, negation}, Primitives.{primitive_gives, primitive_named, applied}}
 use Rattle.sno_value.specs.declared.primitive.Primitive.TheVariants as primitive
-use Rattle.sno_value.specs.Values.{null, number_of}
-use Rattle.sno_value.specs.Operators.{concatenation, arithmetic, negation}
-use Rattle.sno_value.specs.Primitives.{primitive_gives, primitive_named, applied}
 
 -- 7 / 2 is 3, and -7 / 2 is -3
 rounds_toward_zero : arithmetic Quotient (Integer (pos 7)) (Text (codes "2")) ≡ Gives (Integer (pos 3))

@@ -1,10 +1,7 @@
 -- The value of digits only grows with them, and each number has some.
 use Rattle.std.proofs.Common.{arith, ◌≡◌, ℕ, suc, ◌+◌, ◌-◌, ◌*◌, ◌^◌, ◌≤◌, ◌<◌, List, [], ◌∷◌, length, refl, sym, drop, get_or, add-one, drop-cons, ap, ◌∙◌, Bool, true, false}
-use Rattle.std.specs.Prelude.{ℤ, pos, negsuc, Option, None, nat_le, if◌then◌else◌}
-use Rattle.std.specs.Fmt.{signed_decimal}
-use Rattle.std.specs.Int.Signed.{mag}
-use Rattle.std.proofs.lemmas.Fmt.{decimal_nonempty}
-use Rattle.std.proofs.lemmas.Bool.Decides.{nat_tests}
+use Rattle.std.specs.{Prelude.{ℤ, pos, negsuc, Option, None, nat_le, if◌then◌else◌}, Fmt.{signed_decimal}, Int.Signed.{mag}}
+use Rattle.std.proofs.lemmas.{Fmt.{decimal_nonempty}, Bool.Decides.{nat_tests}}
 use Rattle.mon_text.proofs.Digits.{read_on}
 
 grows : (digits : List ℕ) (n : ℕ) → n ≤ read_on n digits

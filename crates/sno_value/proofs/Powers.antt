@@ -1,9 +1,7 @@
 -- Large exponents: only 0, 1 and -1 have such powers among the integers.
 use Rattle.std.proofs.Common.{arith, ◌≡◌, ◌≢◌, ℕ, zero, suc, ◌*◌, ◌≤◌, ◌<◌, ◌^◌, ◌%◌, refl, sym, ap, ◌∙◌, Bool, true, false, cond, ◌==◌, ℤ, pos, negsuc, neg_ℤ}
-use Rattle.std.specs.Prelude.{Some, None, nat_lt, unsigned_abs, int_le, if◌then◌else◌}
-use Rattle.std.specs.Int.{int_pow}
-use Rattle.std.proofs.Math.Nat.{pow-le-pow_left, pow-le-pow_right, pow-suc}
-use Rattle.std.proofs.lemmas.Bool.Decides.{nat_tests}
+use Rattle.std.specs.{Prelude.{Some, None, nat_lt, unsigned_abs, int_le, if◌then◌else◌}, Int.{int_pow}}
+use Rattle.std.proofs.{Math.Nat.{pow-le-pow_left, pow-le-pow_right, pow-suc}, lemmas.Bool.Decides.{nat_tests}}
 use Rattle.sno_value.specs.Values.{is_integer, integer_of}
 
 one_to : (e : ℕ) → 1 ^ e ≡ 1

@@ -1,12 +1,8 @@
 -- What keeps values from becoming parts of a pattern.
 use Rattle.std.proofs.Common.{arith, ◌≡◌, ℕ, ◌+◌, refl, Bool, true, false}
-use Rattle.std.specs.Prelude.{Option, Some, None, is_some, nat_le, if◌then◌else◌}
-use Rattle.std.proofs.lemmas.Bool.Decides.{nat_tests}
-use Rattle.sno_text.specs.declared.fault.Fault.TheVariants.{WrongType, Depth}
-use Rattle.sno_text.specs.Patterns.{Pattern, Cat, Alt, Arbno, larger, depth, most_depth}
-use Rattle.sno_value.specs.declared.outcome.Outcome.TheVariants.{Faults}
-use Rattle.sno_value.specs.Outcomes.{pattern_with, pattern_with_both}
-use Rattle.sno_value.specs.Memory.{is_deepest, is_given}
+use Rattle.std.{specs.Prelude.{Option, Some, None, is_some, nat_le, if◌then◌else◌}, proofs.lemmas.Bool.Decides.{nat_tests}}
+use Rattle.sno_text.specs.{declared.fault.Fault.TheVariants.{WrongType, Depth}, Patterns.{Pattern, Cat, Alt, Arbno, larger, depth, most_depth}}
+use Rattle.sno_value.specs.{declared.outcome.Outcome.TheVariants.{Faults}, Outcomes.{pattern_with, pattern_with_both}, Memory.{is_deepest, is_given}}
 
 over : (m : ℕ) → nat_le most_depth m ≡ true → nat_le (1 + m) most_depth ≡ false
 over m e = grind (arith, nat_tests, e)

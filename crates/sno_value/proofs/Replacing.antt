@@ -1,13 +1,8 @@
 -- The table of what stands for each character, made from left to right, and the text that it makes.
 use Rattle.std.proofs.Common.{arith, ◌≡◌, ◌≢◌, ℕ, ◌+◌, ◌<◌, List, [], ◌∷◌, ◌++◌, length, get_or, take, set, reverse, map, refl, sym, ap, ◌∙◌, subst, Bool, true, false, cond, ◌==◌, ◌&&◌, get_or-set_same, get_or-set_other}
-use Rattle.std.specs.Prelude.{Some, find, zip, if◌then◌else◌}
-use Rattle.std.specs.List.{list_all}
-use Rattle.std.specs.Option.{option_map_or}
-use Rattle.std.proofs.lemmas.List.{take_more, length-take, reverse-append}
-use Rattle.std.proofs.lemmas.List.Folds.{list_all-append}
-use Rattle.std.proofs.lemmas.Bool.Decides.{nat_tests}
-use Rattle.mon_text.specs.Characters.{is_printable}
-use Rattle.mon_text.specs.Lines.{IsLine}
+use Rattle.std.specs.{Prelude.{Some, find, zip, if◌then◌else◌}, List.{list_all}, Option.{option_map_or}}
+use Rattle.std.proofs.lemmas.{List.{take_more, length-take, reverse-append}, List.Folds.{list_all-append}, Bool.Decides.{nat_tests}}
+use Rattle.mon_text.specs.{Characters.{is_printable}, Lines.{IsLine}}
 use Rattle.sno_value.specs.Primitives.{replacement}
 
 zip_last : (us vs : List ℕ) (a b : ℕ) → length us ≡ length vs → zip (us ++ a ∷ []) (vs ++ b ∷ []) ≡ zip us vs ++ (a, b) ∷ []

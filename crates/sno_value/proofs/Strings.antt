@@ -1,13 +1,8 @@
 -- Strings that are formed: how long they are, and what that gives.
 use Rattle.std.proofs.Common.{arith, ◌≡◌, ℕ, ◌*◌, ◌≤◌, ◌<◌, List, length, sym, ap, Bool, true, false}
-use Rattle.std.specs.Prelude.{nat_le, nat_lt, if◌then◌else◌}
-use Rattle.std.proofs.lemmas.Bool.Decides.{nat_tests}
-use Rattle.sno_text.proofs.Repeating.{length-repeated}
-use Rattle.sno_text.specs.declared.fault.Fault.TheVariants.{Length}
-use Rattle.sno_value.specs.declared.value.Value.TheVariants.{Text}
-use Rattle.sno_value.specs.declared.outcome.Outcome.TheVariants.{Gives, Faults}
-use Rattle.sno_value.specs.Outcomes.{string}
-use Rattle.std.specs.List.{repeat}
+use Rattle.std.{specs.Prelude.{nat_le, nat_lt, if◌then◌else◌}, proofs.lemmas.Bool.Decides.{nat_tests}, specs.List.{repeat}}
+use Rattle.sno_text.{proofs.Repeating.{length-repeated}, specs.declared.fault.Fault.TheVariants.{Length}}
+use Rattle.sno_value.specs.{declared.value.Value.TheVariants.{Text}, declared.outcome.Outcome.TheVariants.{Gives, Faults}, Outcomes.{string}}
 
 by_length : (text : List ℕ) (b : Bool) (given : Bool) → b ≡ given → (if given then Gives (Text text) else Faults Length) ≡ (if b then Gives (Text text) else Faults Length)
 by_length text b given e = ap (λ (c : Bool). if c then Gives (Text text) else Faults Length) (sym e)

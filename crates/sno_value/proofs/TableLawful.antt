@@ -1,20 +1,11 @@
 -- The laws of tables.
 use Rattle.std.proofs.Common.{◌≡◌, Bool, true, false, cond, List, [], ◌∷◌, Option, Some, None, refl, sym, ap, ◌∙◌, nat_eq, true≢false}
-use Rattle.std.specs.Prelude.{unwrap_or, if◌then◌else◌}
-use Rattle.std.specs.Map.{lookup}
-use Rattle.std.specs.Ordering.{int_eq}
-use Rattle.std.specs.Cmp.Lexicographic.{pointwise}
+use Rattle.std.specs.{Prelude.{unwrap_or, if◌then◌else◌}, Map.{lookup}, Ordering.{int_eq}, Cmp.Lexicographic.{pointwise}}
 use Rattle.indexmap.specs.IndexMap.{insert_entry}
-use Rattle.sno_value.specs.declared.value.Value.{Value}
-use Rattle.sno_value.specs.declared.value.Value.TheVariants.{Text, Integer, Pattern, Unevaluated, Table}
-use Rattle.sno_value.specs.Primitives.{are_identical}
-use Rattle.sno_value.specs.declared.key.Key.{Key}
+use Rattle.sno_value.specs.declared.{value.Value.{Value}, value.Value.TheVariants.{Text, Integer, Pattern, Unevaluated, Table}, key.Key.{Key}}
+use Rattle.sno_value.specs.{Primitives.{are_identical}, declared.key.Place.{Place}, Keys.{key_of, same_key, same_place}, Tables.{Tables, item_of, put}}
+use Rattle.sno_value.specs.{TableLaws.{SameWhereIdentical, SetIsFound, OthersStay}, inner.Same.{place_decides, same_place_equiv}}
 use Rattle.sno_value.specs.declared.key.Key.TheVariants as key
-use Rattle.sno_value.specs.declared.key.Place.{Place}
-use Rattle.sno_value.specs.Keys.{key_of, same_key, same_place}
-use Rattle.sno_value.specs.Tables.{Tables, item_of, put}
-use Rattle.sno_value.specs.TableLaws.{SameWhereIdentical, SetIsFound, OthersStay}
-use Rattle.sno_value.specs.inner.Same.{place_decides, same_place_equiv}
 
 abbrev Items : Type 0
 Items = List (Place × Value)

@@ -2,12 +2,8 @@
 use Rattle.std.proofs.Common.{◌≡◌, ℕ, Bool, true, false, ◌||◌, List, [], ◌∷◌, refl, sym, ap, ◌∙◌, true≢false}
 use Rattle.std.specs.List.{list_any}
 use Rattle.sno_value.specs.declared.value.Value.{Value}
-use Rattle.sno_variables.specs.declared.variable.Variable.{Variable}
-use Rattle.sno_variables.specs.Variables.{Variables, variable_of, value_of, given}
-use Rattle.sno_variables.specs.Bindings.{Bindings, assigned}
-use Rattle.sno_variables.proofs.Saved.{saved}
-use Rattle.sno_variables.proofs.Looking.{same, put_is_found, others_stay, one_variable}
-use Rattle.sno_variables.specs.Laws.{AssociationsStay}
+use Rattle.sno_variables.{specs.declared.variable.Variable.{Variable}, specs.Variables.{Variables, variable_of, value_of, given}, proofs.Saved.{saved}}
+use Rattle.sno_variables.{specs.Bindings.{Bindings, assigned}, proofs.Looking.{same, put_is_found, others_stay, one_variable}, specs.Laws.{AssociationsStay}}
 
 -- a name has what it was given
 has_given : (name n : List ℕ) (v : Value) (vs : Variables) → same name n ≡ true → value_of name (given n v vs) ≡ v

@@ -1,9 +1,7 @@
 -- Names and their values, one after the other.
 use Rattle.std.proofs.Common.{◌≡◌, ℕ, zero, suc, ◌-◌, ◌<◌, ◌≤◌, List, [], ◌∷◌, ◌++◌, length, get_or, drop, drop-cons, refl, sym, ap, ◌∙◌, arith}
-use Rattle.std.proofs.Math.Seq.{drop-length}
-use Rattle.std.specs.Prelude.{unwrap_or, slice_get}
-use Rattle.sno_value.specs.declared.value.Value.{Value}
-use Rattle.sno_value.specs.Values.{null}
+use Rattle.std.{proofs.Math.Seq.{drop-length}, specs.Prelude.{unwrap_or, slice_get}}
+use Rattle.sno_value.specs.{declared.value.Value.{Value}, Values.{null}}
 use Rattle.sno_variables.specs.Bindings.{Bindings, paired}
 
 paired_nulls : (names : List (List ℕ)) (i : ℕ) (d : List ℕ) → i < length names

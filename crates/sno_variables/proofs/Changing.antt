@@ -1,15 +1,10 @@
 -- A variable that is changed is put in place of what it was.
 use Rattle.std.proofs.Common.{◌≡◌, ℕ, Bool, true, false, cond, List, [], ◌∷◌, Option, None, Some, refl, sym, ap, ◌∙◌, nat_eq}
-use Rattle.std.specs.Prelude.{is_some, unwrap_or, if◌then◌else◌}
-use Rattle.std.specs.Map.{lookup}
-use Rattle.std.specs.Cmp.Lexicographic.{pointwise}
-use Rattle.sno_value.specs.declared.value.Value.{Value}
-use Rattle.sno_value.specs.Values.{null}
-use Rattle.sno_declarations.specs.declared.association.Input.{Input}
-use Rattle.sno_declarations.specs.declared.association.Output.{Output}
-use Rattle.sno_variables.specs.declared.variable.Variable.{Variable}
+use Rattle.std.specs.{Prelude.{is_some, unwrap_or, if◌then◌else◌}, Map.{lookup}, Cmp.Lexicographic.{pointwise}}
+use Rattle.sno_value.specs.{declared.value.Value.{Value}, Values.{null}}
+use Rattle.sno_declarations.specs.declared.association.{Input.{Input}, Output.{Output}}
+use Rattle.sno_variables.{specs.declared.variable.Variable.{Variable}, proofs.Looking.{same}}
 use Rattle.sno_variables.specs.Variables.{Variables, holding, variable_of, is_named, put, given, reading, writing, detached, noted}
-use Rattle.sno_variables.proofs.Looking.{same}
 
 known : (name : List ℕ) (vs : Variables) (x : Variable) → Some x ≡ lookup (pointwise nat_eq name) vs → variable_of name vs ≡ x
 known name vs x at = sym (ap (λ o. unwrap_or o (holding null)) at)

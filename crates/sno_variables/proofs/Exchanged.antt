@@ -1,25 +1,14 @@
 -- Values that are exchanged with those of variables, one after the other.
 use Rattle.std.proofs.Common.{◌≡◌, ℕ, zero, suc, ◌+◌, ◌<◌, ◌≤◌, nat_eq, nat_lt, Bool, true, false, cond, not, ◌||◌, ◌&&◌, List, [], ◌∷◌, ◌++◌, length, take, drop, set, get_or, drop-cons, Option, None, Some, position, slice_get, refl, sym, ap, ap₂, ◌∙◌, true≢false, arith}
-use Rattle.std.proofs.Math.Seq.{take-suc, take-suc-set}
-use Rattle.std.proofs.lemmas.List.{append_assoc, append-nil, map-append, length-append, length-map, take-append-drop}
-use Rattle.std.specs.Prelude.{unwrap_or, is_some, if◌then◌else◌}
-use Rattle.std.specs.List.{list_any, position_or_len}
-use Rattle.std.specs.Map.{keys_of, values_of, lookup}
-use Rattle.std.specs.Cmp.Lexicographic.{pointwise, nat_list_eq_equiv}
-use Rattle.std.proofs.lemmas.Bool.Decides.{nat_tests}
-use Rattle.sno_value.specs.declared.value.Value.{Value}
-use Rattle.sno_value.specs.Values.{null}
-use Rattle.sno_declarations.specs.declared.prototype.Prototype.{Prototype}
-use Rattle.sno_declarations.specs.Prototypes.{names_of, are_different}
-use Rattle.sno_variables.specs.declared.variable.Variable.{Variable}
-use Rattle.sno_variables.specs.Variables.{Variables, holding, variable_of, is_named, value_of, put, given}
-use Rattle.sno_variables.specs.Bindings.{Bindings, paired, assigned}
-use Rattle.sno_variables.proofs.Saved.{saved}
+use Rattle.std.{proofs.Math.Seq.{take-suc, take-suc-set}, specs.Prelude.{unwrap_or, is_some, if◌then◌else◌}, specs.List.{list_any, position_or_len}}
+use Rattle.std.{proofs.lemmas.List.{append_assoc, append-nil, map-append, length-append, length-map, take-append-drop}, specs.Map.{keys_of, values_of, lookup}}
+use Rattle.std.{specs.Cmp.Lexicographic.{pointwise, nat_list_eq_equiv}, proofs.lemmas.Bool.Decides.{nat_tests}}
+use Rattle.sno_value.specs.{declared.value.Value.{Value}, Values.{null}}
+use Rattle.sno_declarations.specs.{declared.prototype.Prototype.{Prototype}, Prototypes.{names_of, are_different}}
+use Rattle.sno_variables.specs.{declared.variable.Variable.{Variable}, Variables.{Variables, holding, variable_of, is_named, value_of, put, given}}
+use Rattle.sno_variables.{specs.Bindings.{Bindings, paired, assigned}, proofs.Saved.{saved}, proofs.Looking.{same, found, put_is_found, given_found}}
 use Rattle.sno_variables.specs.inner.Exchanging.{values_now, with_value_in, with_value_at, value_in, value_at, after, before, taken_by, undone}
-use Rattle.sno_variables.proofs.Looking.{same, found, put_is_found, given_found}
-use Rattle.sno_variables.proofs.Places.{value_there, none_there, place}
-use Rattle.sno_variables.proofs.Written.{written_there}
-use Rattle.sno_variables.proofs.Assigned.{other_given}
+use Rattle.sno_variables.proofs.{Places.{value_there, none_there, place}, Written.{written_there}, Assigned.{other_given}}
 
 -- ONE VALUE
 

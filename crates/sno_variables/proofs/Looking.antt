@@ -1,12 +1,8 @@
 -- What is found after a variable was put.
 use Rattle.std.proofs.Common.{◌≡◌, ℕ, Bool, true, false, cond, List, [], ◌∷◌, Option, Some, None, refl, sym, ap, ap₂, ◌∙◌, nat_eq}
-use Rattle.std.specs.Prelude.{unwrap_or, if◌then◌else◌}
-use Rattle.std.specs.Map.{lookup}
-use Rattle.std.specs.Cmp.Lexicographic.{pointwise, nat_list_eq_equiv}
-use Rattle.sno_value.specs.declared.value.Value.{Value}
-use Rattle.sno_value.specs.Values.{null}
-use Rattle.sno_variables.specs.declared.variable.Variable.{Variable}
-use Rattle.sno_variables.specs.Variables.{Variables, holding, variable_of, value_of, put, given, noted}
+use Rattle.std.specs.{Prelude.{unwrap_or, if◌then◌else◌}, Map.{lookup}, Cmp.Lexicographic.{pointwise, nat_list_eq_equiv}}
+use Rattle.sno_value.specs.{declared.value.Value.{Value}, Values.{null}}
+use Rattle.sno_variables.specs.{declared.variable.Variable.{Variable}, Variables.{Variables, holding, variable_of, value_of, put, given, noted}}
 
 abbrev pub same : List ℕ → List ℕ → Bool
 same a b = pointwise nat_eq a b

@@ -1,14 +1,9 @@
 -- The place of a name.
 use Rattle.std.proofs.Common.{◌≡◌, ℕ, zero, suc, nat_eq, nat_lt, ◌<◌, Bool, true, false, cond, not, List, [], ◌∷◌, ◌+◌, length, None, Some, position, slice_get, refl, sym, ap, subst, ◌∙◌, true≢false, arith}
-use Rattle.std.specs.Prelude.{if◌then◌else◌}
-use Rattle.std.specs.List.{position_or_len, IsDistinct}
-use Rattle.std.specs.Cmp.Lexicographic.{pointwise}
-use Rattle.std.specs.Map.{keys_of, values_of, lookup}
+use Rattle.std.specs.{Prelude.{if◌then◌else◌}, List.{position_or_len, IsDistinct}, Cmp.Lexicographic.{pointwise}, Map.{keys_of, values_of, lookup}}
 use Rattle.std.proofs.lemmas.Bool.Decides.{nat_tests}
 use Rattle.indexmap.specs.IndexMap.{set_value_at}
-use Rattle.sno_variables.specs.declared.variable.Variable.{Variable}
-use Rattle.sno_variables.specs.Variables.{Variables, put}
-use Rattle.sno_variables.specs.inner.Places.{AreDistinct}
+use Rattle.sno_variables.specs.{declared.variable.Variable.{Variable}, Variables.{Variables, put}, inner.Places.{AreDistinct}}
 use Rattle.sno_variables.proofs.Looking.{same}
 
 -- WHAT IS WRITTEN AT A PLACE

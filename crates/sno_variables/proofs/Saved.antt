@@ -1,7 +1,6 @@
 -- What is saved of variables.
 use Rattle.std.specs.Prelude.{ℕ, List, map}
-use Rattle.sno_variables.specs.Variables.{Variables, value_of}
-use Rattle.sno_variables.specs.Bindings.{Bindings}
+use Rattle.sno_variables.specs.{Variables.{Variables, value_of}, Bindings.{Bindings}}
 
 -- names, each with the value that it has now
 abbrev pub saved : List (List ℕ) → Variables → Bindings

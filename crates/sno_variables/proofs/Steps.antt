@@ -1,8 +1,7 @@
 -- What several steps come to: the variables that there are at first, one after the other.
 use Rattle.std.proofs.Common.{◌≡◌, false, [], ◌∙◌, ap}
 use Rattle.std.specs.Prelude.{codes}
-use Rattle.sno_variables.specs.Variables.{Variables, reading, writing}
-use Rattle.sno_variables.specs.First.{with_patterns, first_variables}
+use Rattle.sno_variables.specs.{Variables.{Variables, reading, writing}, First.{with_patterns, first_variables}}
 
 pub first_by : (a b c d : Variables) → a ≡ with_patterns [] → b ≡ reading (codes "INPUT") (record { unit = 5; most = 1024 }) a
     → c ≡ writing (codes "OUTPUT") (record { unit = 6; format = record { characters = 132; blank = false } }) b

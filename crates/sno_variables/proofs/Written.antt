@@ -1,13 +1,10 @@
 -- What is written at the place of a name gives it its value.
 use Rattle.std.proofs.Common.{◌≡◌, ℕ, nat_eq, List, None, Some, position, slice_get, ◌∙◌}
-use Rattle.std.specs.Map.{keys_of, values_of}
-use Rattle.std.specs.Cmp.Lexicographic.{pointwise}
+use Rattle.std.specs.{Map.{keys_of, values_of}, Cmp.Lexicographic.{pointwise}}
 use Rattle.indexmap.specs.IndexMap.{set_value_at}
 use Rattle.sno_value.specs.declared.value.Value.{Value}
-use Rattle.sno_variables.specs.declared.variable.Variable.{Variable}
-use Rattle.sno_variables.specs.Variables.{Variables, holding, put, given}
-use Rattle.sno_variables.proofs.Places.{put_there, value_there, none_there, still_distinct}
-use Rattle.sno_variables.proofs.Changing.{given_known, given_new}
+use Rattle.sno_variables.specs.{declared.variable.Variable.{Variable}, Variables.{Variables, holding, put, given}}
+use Rattle.sno_variables.proofs.{Places.{put_there, value_there, none_there, still_distinct}, Changing.{given_known, given_new}}
 
 pub written_there : (name : List ℕ) (vs : Variables) (i : ℕ) (x : Variable) (v : Value) → Some i ≡ position (pointwise nat_eq name) (keys_of vs) → Some x ≡ slice_get (values_of vs) i
     → set_value_at vs i (record x { value = v }) ≡ given name v vs

@@ -1,13 +1,10 @@
 -- The words up to the first that ends the options or asks for an audit, and what follows them.
 use Rattle.std.proofs.Common.{◌≡◌, ◌∙◌, ℕ, suc, ◌+◌, ◌<◌, ◌||◌, ◌⊎◌, inl, inr, Bool, true, false, List, [], ◌∷◌, ◌++◌, Option, Some, None, refl, sym, ap, subst, arith, length, map, take, drop, get_or, append_assoc, if◌then◌else◌}
-use Rattle.std.specs.Prelude.{is_some}
-use Rattle.std.specs.Option.{option_map, option_map_or}
-use Rattle.std.proofs.Math.Seq.{drop-append_seam, drop-cons, take-append_seam, take-suc}
+use Rattle.std.{specs.Prelude.{is_some}, specs.Option.{option_map, option_map_or}, proofs.Math.Seq.{drop-append_seam, drop-cons, take-append_seam, take-suc}}
 use Rattle.std.proofs.lemmas.List.{drop-map, get_or-map, length-map, length-take-le, map-append, take-map}
 use Rattle.snomon_library.specs.Asking.{Asked, GivesAll, asked_for, asked_in, asked_next, audit_of, behind, file_in, is_end, is_file, is_option}
+use Rattle.snomon_library.specs.{CommandLine.{Gives}, inner.Asking.{onto, stands_out}}
 use Rattle.deck_driver.specs.declared.options.Options.{Options}
-use Rattle.snomon_library.specs.CommandLine.{Gives}
-use Rattle.snomon_library.specs.inner.Asking.{onto, stands_out}
 
 -- behind the program's name
 pub starts : (texts : List (List ℕ)) → 0 < length texts → audit_of texts ≡ option_map (onto (take 1 texts)) (asked_in (drop 1 texts))

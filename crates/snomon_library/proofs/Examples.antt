@@ -1,13 +1,10 @@
 -- Worked command lines: what each of them gives, and which give nothing.
 use Rattle.std.proofs.Common.{◌≡◌, ◌∙◌, ◌≤◌, ℕ, inl, inr, Bool, true, false, List, [], ◌∷◌, Some, None, refl, sym, subst, codes, arith, true≢false}
 use Rattle.std.specs.Prelude.{◌↔◌}
-use Rattle.clap.specs.Takes.{takes}
-use Rattle.clap.proofs.OnLiterals.{clap_on_literals}
+use Rattle.clap.{specs.Takes.{takes}, proofs.OnLiterals.{clap_on_literals}}
 use Rattle.deck_driver.specs.declared.options.Options.{Options}
-use Rattle.snomon_library.specs.Asking.{audit_of}
-use Rattle.snomon_library.specs.CommandLine.{Asks, Gives, apart, joined, left_out, snomon}
-use Rattle.snomon_library.proofs.Matched.{one_meaning, taken}
-use Rattle.snomon_library.proofs.Numbers.{passed}
+use Rattle.snomon_library.specs.{Asking.{audit_of}, CommandLine.{Asks, Gives, apart, joined, left_out, snomon}}
+use Rattle.snomon_library.proofs.{Matched.{one_meaning, taken}, Numbers.{passed}}
 
 module _ (program : List ℕ) where
   -- the words behind the program's name give this and nothing else

@@ -1,21 +1,11 @@
 -- What a file has taken of an audit that was put to it, where all of it was.
 use Rattle.std.proofs.Common.{◌≡◌, ◌⊎◌, inl, inr, ℕ, Bool, true, false, List, [], ◌++◌, Option, Some, None, Result, Ok, Err, IfSome, refl, sym, ap, ◌∙◌, arith, append-nil, subst}
-use Rattle.mon_device.specs.Devices.{holding}
-use Rattle.mon_device.specs.Putting.{Standing, Puts}
-use Rattle.mon_device.proofs.Putting.{puts_then}
+use Rattle.mon_device.{specs.Devices.{holding}, specs.Putting.{Standing, Puts}, proofs.Putting.{puts_then}}
 use Rattle.scheduler.specs.Marks.{Marks}
-use Rattle.deck_driver.specs.declared.fault.RunError.{RunError}
-use Rattle.deck_driver.specs.declared.fault.RunError.TheVariants.{DeckRefused, ReadFault, WriteFault, AuditFault, Memory}
-use Rattle.deck_driver.specs.declared.options.Options.{Options}
-use Rattle.deck_driver.specs.declared.options.Counts.{Counts}
-use Rattle.deck_driver.specs.Audits.{audit_for}
-use Rattle.deck_driver.specs.Printouts.{output_of}
-use Rattle.deck_run.specs.Audited.{end_told, is_broken, IsSettled}
-use Rattle.deck_run.specs.Faults.{status_of}
-use Rattle.deck_run.specs.declared.shortage.Shortage.{Shortage}
-use Rattle.snomon_library.specs.Auditing.{Audits}
-use Rattle.snomon_library.specs.Endings.{Ends, heard_as}
-use Rattle.snomon_library.specs.Streams.{Comes}
+use Rattle.deck_driver.specs.declared.fault.RunError.{RunError, TheVariants.{DeckRefused, ReadFault, WriteFault, AuditFault, Memory}}
+use Rattle.deck_driver.specs.{declared.options.Options.{Options}, declared.options.Counts.{Counts}, Audits.{audit_for}, Printouts.{output_of}}
+use Rattle.deck_run.specs.{Audited.{end_told, is_broken, IsSettled}, Faults.{status_of}, declared.shortage.Shortage.{Shortage}}
+use Rattle.snomon_library.specs.{Auditing.{Audits}, Endings.{Ends, heard_as}, Streams.{Comes}}
 
 all_taken : (a b : Standing) (text : List ℕ) → a.gathered ≡ [] → IsSettled b → Puts a b text → b.written ≡ holding a.written text
 all_taken a b text none settled put =

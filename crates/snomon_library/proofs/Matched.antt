@@ -1,26 +1,15 @@
 -- What `clap` finds in the words that give options.
 use Rattle.std.proofs.Common.{◌≡◌, ◌∙◌, ◌⊎◌, ◌≤◌, ℕ, inl, inr, Bool, true, false, List, [], ◌++◌, Option, Some, None, refl, sym, ap, subst, codes, drop, true≢false}
-use Rattle.std.specs.Prelude.{if◌then◌else◌}
-use Rattle.std.specs.Str.Parse.{digits_value, without_leading_plus}
-use Rattle.clap.specs.Lexer.{without_minus}
-use Rattle.clap.specs.Walk.{Text, finished, nothing_held, one_of, rows_after, settled, walk, walk_from}
-use Rattle.clap.specs.Simple.{App, HasMatchesOf, built, is_simple, matches_of}
-use Rattle.clap.specs.Takes.{built_takes, takes}
-use Rattle.clap.specs.Faults.{check_fault, defaults_fault, fault_of, is_simple_and_free, settle_fault, walk_fault}
-use Rattle.clap.specs.Matches.{found_of, one_text}
-use Rattle.clap.specs.Values.{kind_of}
-use Rattle.clap.specs.declared.error.Error.{Error}
-use Rattle.clap.specs.declared.error.kind.ErrorKind.{ErrorKind}
-use Rattle.clap.specs.declared.parser.matches.ArgMatches.{ArgMatches}
-use Rattle.clap.specs.Kinds.{Kinds, or_else}
-use Rattle.clap.proofs.FaultLemmas.{leaf_fault}
-use Rattle.clap.proofs.WalkLemmas.{one_text-rows}
+use Rattle.std.specs.{Prelude.{if◌then◌else◌}, Str.Parse.{digits_value, without_leading_plus}}
+use Rattle.clap.specs.{Lexer.{without_minus}, Walk.{Text, finished, nothing_held, one_of, rows_after, settled, walk, walk_from}, Takes.{built_takes, takes}}
+use Rattle.clap.specs.{Simple.{App, HasMatchesOf, built, is_simple, matches_of}, Matches.{found_of, one_text}, Values.{kind_of}, declared.error.Error.{Error}}
+use Rattle.clap.specs.{Faults.{check_fault, defaults_fault, fault_of, is_simple_and_free, settle_fault, walk_fault}, declared.error.kind.ErrorKind.{ErrorKind}}
+use Rattle.clap.specs.{declared.parser.matches.ArgMatches.{ArgMatches}, Kinds.{Kinds, or_else}}
+use Rattle.clap.proofs.{FaultLemmas.{leaf_fault}, WalkLemmas.{one_text-rows}, OnLiterals.{clap_on_literals}}
 use Rattle.deck_driver.specs.declared.options.Options.{Options}
-use Rattle.clap.proofs.OnLiterals.{clap_on_literals}
 use Rattle.snomon_library.specs.CommandLine.{Asks, Gives, GivesNumber, SlotsOption, Writes, apart, check_words, end_words, joined, left_out, slots_words, snomon}
 use Rattle.snomon_library.proofs.Numbers.{no_end, no_long, no_short, passed, passes, passing, without_minus_is}
-use Rattle.snomon_library.proofs.Taken.{Forms, Passes, both_empty, run, words_taken}
-use Rattle.snomon_library.proofs.Words.{check_id, first_empty, rules, second_empty, slots_id, top}
+use Rattle.snomon_library.proofs.{Taken.{Forms, Passes, both_empty, run, words_taken}, Words.{check_id, first_empty, rules, second_empty, slots_id, top}}
 
 -- the texts that are read of the two options
 abbrev pub flag_text : Bool → Text

@@ -1,11 +1,8 @@
 -- What a run comes to, of streams that are the same, and of streams that tell at first.
 use Rattle.std.proofs.Common.{◌≡◌, sym, subst, ℕ, List, Bool}
 use Rattle.std.specs.Prelude.{Option, Some, None, Result, is_some}
-use Rattle.mon_device.specs.Putting.{Standing}
-use Rattle.mon_device.specs.Telling.{where_told}
-use Rattle.deck_driver.specs.declared.fault.RunError.{RunError}
-use Rattle.deck_driver.specs.declared.options.Options.{Options}
-use Rattle.deck_driver.specs.declared.options.Counts.{Counts}
+use Rattle.mon_device.specs.{Putting.{Standing}, Telling.{where_told}}
+use Rattle.deck_driver.specs.declared.{fault.RunError.{RunError}, options.Options.{Options}, options.Counts.{Counts}}
 use Rattle.deck_run.specs.declared.shortage.Shortage.{Shortage}
 use Rattle.snomon_library.specs.Streams.{Comes}
 

@@ -1,16 +1,10 @@
 -- The texts of a number from 1 to 8, as `clap` tests them and as std reads them.
 use Rattle.std.proofs.Common.{◌≡◌, ◌≤◌, ◌==◌, ℕ, Bool, true, false, List, [], ◌∷◌, Some, None, refl, ap, subst, codes, arith}
-use Rattle.std.specs.Prelude.{if◌then◌else◌, pos, unwrap_or}
-use Rattle.std.proofs.lemmas.Int.{ints}
-use Rattle.std.proofs.lemmas.Bool.Decides.{nat_tests}
-use Rattle.std.specs.Str.{bytes_eq}
-use Rattle.std.specs.Str.Parse.{IsNumeral, digits_value, starts_with_minus, without_leading_plus}
-use Rattle.clap.specs.Lexer.{long_of, short_of, without_minus}
-use Rattle.clap.specs.Values.{IsSignedIn}
-use Rattle.clap.specs.ValueTests.{accepts}
-use Rattle.clap.specs.declared.builder.value_parser.ValueParser.{ValueParser}
+use Rattle.std.specs.{Prelude.{if◌then◌else◌, pos, unwrap_or}, Str.{bytes_eq}, Str.Parse.{IsNumeral, digits_value, starts_with_minus, without_leading_plus}}
+use Rattle.std.proofs.lemmas.{Int.{ints}, Bool.Decides.{nat_tests}}
+use Rattle.clap.specs.{Lexer.{long_of, short_of, without_minus}, Values.{IsSignedIn}, ValueTests.{accepts}}
+use Rattle.clap.{specs.declared.builder.value_parser.ValueParser.{ValueParser}, proofs.ValueTestLemmas.{Accepts-accepts, accepts-Accepts}}
 use Rattle.clap.specs.declared.builder.value_parser.ValueParser.TheVariants as vp
-use Rattle.clap.proofs.ValueTestLemmas.{Accepts-accepts, accepts-Accepts}
 use Rattle.snomon_library.specs.CommandLine.{Writes}
 
 abbrev pub one_to_eight : ValueParser

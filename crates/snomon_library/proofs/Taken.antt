@@ -1,12 +1,9 @@
 -- The lists of words that `clap` takes for snomon, by the first word and then by the next ones.
 use Rattle.std.proofs.Common.{◌≡◌, ◌∙◌, ◌⊎◌, inl, inr, Bool, true, false, List, [], ◌∷◌, ◌++◌, Some, None, refl, sym, ap, subst, codes, true≢false, Option}
 use Rattle.std.specs.Prelude.{fold}
-use Rattle.clap.specs.Kinds.{Kinds, or_else}
-use Rattle.clap.specs.Faults.{settle_fault, turn_fault, walk_fault}
+use Rattle.clap.{specs.Kinds.{Kinds, or_else}, specs.Faults.{settle_fault, turn_fault, walk_fault}, proofs.OnLiterals.{clap_on_literals}}
 use Rattle.clap.specs.Walk.{Held, Row, Text, Walk, Step, Waiting, after_step, has_row, idle, nothing_held, option, settled, used, walk_from, walked}
-use Rattle.clap.proofs.OnLiterals.{clap_on_literals}
-use Rattle.snomon_library.specs.CommandLine.{SlotsOption, apart, check_words, end_words, joined, left_out, slots_words}
-use Rattle.snomon_library.proofs.Numbers.{passes}
+use Rattle.snomon_library.{specs.CommandLine.{SlotsOption, apart, check_words, end_words, joined, left_out, slots_words}, proofs.Numbers.{passes}}
 use Rattle.snomon_library.proofs.Words.{Settles, Word, accepted, asks, check, check_id, checks, ends, first_empty, holding, is_value, no_kind, once, rules, second_empty, slots, slots_id, tells, top, word_taken}
 
 -- the walk over the words, and then the use of what is pending at its end

@@ -1,10 +1,8 @@
 -- What is told: one line, or two, one behind the other.
 use Rattle.std.proofs.Common.{◌≡◌, List, ℕ, ◌++◌, Option, Some, None, Result, Ok, Err, OnOk, sym, ap, subst, ◌∙◌, append_assoc, refl}
 use Rattle.std.specs.Io.KnownBytes.{Appends}
-use Rattle.deck_driver.specs.declared.fault.RunError.{RunError}
-use Rattle.deck_driver.specs.declared.fault.RunError.TheVariants.{DeckRefused, ReadFault, WriteFault, AuditFault, Memory}
-use Rattle.deck_run.specs.Faults.{fault_line, shortage_line}
-use Rattle.deck_run.specs.declared.shortage.Shortage.{Shortage}
+use Rattle.deck_driver.specs.declared.fault.RunError.{RunError, TheVariants.{DeckRefused, ReadFault, WriteFault, AuditFault, Memory}}
+use Rattle.deck_run.specs.{Faults.{fault_line, shortage_line}, declared.shortage.Shortage.{Shortage}}
 use Rattle.snomon_library.specs.Endings.{told_of}
 
 appended : (before mid after : Option (List ℕ)) (first second : List ℕ) → Appends before mid first → Appends mid after second → Appends before after (first ++ second)

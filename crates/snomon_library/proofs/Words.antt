@@ -1,23 +1,14 @@
 -- What `clap` takes a word for, by what is held before it.
 use Rattle.std.proofs.Common.{◌≡◌, ◌∙◌, ◌||◌, ◌<◌, ◌==◌, ℕ, Bool, true, false, List, [], ◌∷◌, ◌++◌, length, get_or, Option, Some, None, refl, sym, ap, codes, arith, true≢false}
-use Rattle.std.specs.Prelude.{◌&&◌, if◌then◌else◌, option_and_then, slice_get, unwrap_or}
-use Rattle.std.specs.List.{after_first, before_first, list_any, position_or_len}
-use Rattle.std.specs.Option.{option_map_or}
-use Rattle.std.specs.Str.{bytes_eq, chars}
-use Rattle.std.proofs.lemmas.List.Folds.{list_any_at}
-use Rattle.std.proofs.lemmas.List.Sums.{passes_at_first, split_at_first}
-use Rattle.std.proofs.lemmas.Bool.Decides.{nat_tests}
-use Rattle.std.proofs.lemmas.Slice.Eq.{bytes_eq-Decides}
-use Rattle.clap.specs.Lexer.{has_byte, long_of, long_of_rest, short_of, strip_byte}
-use Rattle.clap.specs.Kinds.{Kinds, or_else}
+use Rattle.std.specs.{Prelude.{◌&&◌, if◌then◌else◌, option_and_then, slice_get, unwrap_or}, List.{after_first, before_first, list_any, position_or_len}}
+use Rattle.std.specs.{Option.{option_map_or}, Str.{bytes_eq, chars}}
+use Rattle.std.proofs.lemmas.{List.Folds.{list_any_at}, List.Sums.{passes_at_first, split_at_first}, Bool.Decides.{nat_tests}, Slice.Eq.{bytes_eq-Decides}}
+use Rattle.clap.specs.{Lexer.{has_byte, long_of, long_of_rest, short_of, strip_byte}, Kinds.{Kinds, or_else}, declared.error.kind.ErrorKind.{ErrorKind}}
 use Rattle.clap.specs.Faults.{bundle_fault, bundle_step_fault, flag_word_fault, flags_fault, long_fault, other_fault, settle_fault, short_fault, step_fault}
-use Rattle.clap.specs.Walk.{Held, Row, Rule, Step, Text, Waiting, after_flag, arg_by_long, arg_by_short, bundle_met, bundle_step, has_row, idle, long_or_other, option, plain, plain_word, settled, short_or_plain, subcommand_or_other, trailing}
 use Rattle.clap.specs.Simple.{Shape, built, filled, help_rule, version_rule}
-use Rattle.clap.specs.declared.error.kind.ErrorKind.{ErrorKind}
-use Rattle.clap.proofs.OnLiterals.{clap_on_literals}
-use Rattle.clap.proofs.CutLemmas.{before_first-Lacks}
-use Rattle.snomon_library.specs.CommandLine.{check_rule, slots_rule, snomon}
-use Rattle.snomon_library.proofs.Numbers.{passes}
+use Rattle.clap.proofs.{OnLiterals.{clap_on_literals}, CutLemmas.{before_first-Lacks}}
+use Rattle.clap.specs.Walk.{Held, Row, Rule, Step, Text, Waiting, after_flag, arg_by_long, arg_by_short, bundle_met, bundle_step, has_row, idle, long_or_other, option, plain, plain_word, settled, short_or_plain, subcommand_or_other, trailing}
+use Rattle.snomon_library.{specs.CommandLine.{check_rule, slots_rule, snomon}, proofs.Numbers.{passes}}
 
 abbrev pub top : Shape
 top = (built snomon).top

@@ -1,19 +1,12 @@
 -- Where a text has come to after some lines, and what was found in them.
 use Rattle.std.proofs.Common.{◌≡◌, ℕ, ◌+◌, Bool, true, false, List, [], ◌∷◌, ◌++◌, Option, Some, None, refl, sym, ap, ◌∙◌, append_assoc, append-nil}
-use Rattle.std.specs.Prelude.{◌||◌, option_map}
-use Rattle.std.specs.Option.{option_or, option_map_or}
-use Rattle.std.specs.Str.Lines.{lines}
+use Rattle.std.specs.{Prelude.{◌||◌, option_map}, Option.{option_or, option_map_or}, Str.Lines.{lines}}
 use Rattle.deck_lines.specs.declared.deck_error.DeckError.{DeckError}
 use Rattle.deck_reader.specs.Events.{event_in, open_after, refusal_in}
-use Rattle.deck_syntax.specs.Decks.{Asked}
-use Rattle.deck_syntax.specs.Sections.{Open, Closed, InList, InJob}
-use Rattle.preflight.specs.declared.why.Why.{Why}
-use Rattle.preflight.specs.declared.why.Why.TheVariants.{Line}
-use Rattle.preflight.specs.Examined.{IsSubmission, Verdict, Admits, Refuses}
-use Rattle.preflight.specs.inner.Reading.{asks_of, refused_to, why_in, and_then, all_then, at_end, examined}
-use Rattle.preflight.proofs.Exactly.{admits_exactly}
-use Rattle.text_names.specs.declared.reading.Found.{Found}
-use Rattle.text_names.specs.Names.{names_of, is_of_all, names_in, asks_all, Speaks}
+use Rattle.deck_syntax.specs.{Decks.{Asked}, Sections.{Open, Closed, InList, InJob}}
+use Rattle.preflight.specs.{declared.why.Why.{Why}, declared.why.Why.TheVariants.{Line}, Examined.{IsSubmission, Verdict, Admits, Refuses}}
+use Rattle.preflight.{specs.inner.Reading.{asks_of, refused_to, why_in, and_then, all_then, at_end, examined}, proofs.Exactly.{admits_exactly}}
+use Rattle.text_names.specs.{declared.reading.Found.{Found}, Names.{names_of, is_of_all, names_in, asks_all, Speaks}}
 use Rattle.text_names.specs.inner.Lines.{names_brought, all_brought, Follows}
 
 -- of a text that is admitted this is left

@@ -1,10 +1,7 @@
 use Rattle.std.proofs.Common.{◌<◌, ◌∙◌, length, sym, ap, arith}
-use Rattle.std.specs.Option.{option_map}
-use Rattle.std.specs.Map.Iter.{deref_pair}
-use Rattle.access_report.specs.Access.{set_part}
-use Rattle.access_report.proofs.Listed.{one_more, not_past}
+use Rattle.std.specs.{Option.{option_map}, Map.Iter.{deref_pair}}
+use Rattle.access_report.{specs.Access.{set_part}, proofs.Listed.{one_more, not_past}, proofs.access.put_access.Goals.{in-Some+in_ok-put_set_part, in_default}}
 use Rattle.access_report.proofs.access.put_access.Goals as goal
-use Rattle.access_report.proofs.access.put_access.Goals.{in-Some+in_ok-put_set_part, in_default}
 
 pub loop-index-preserved : goal.loop-index-preserved
 loop-index-preserved c =

@@ -1,9 +1,8 @@
 use Rattle.std.proofs.Common.{◌<◌, ◌∙◌, length, sym, ap, arith}
 use Rattle.std.specs.Option.{option_copied}
 use Rattle.access_report.specs.Access.{account_part}
-use Rattle.access_report.proofs.Listed.{one_more, not_past}
+use Rattle.access_report.proofs.{Listed.{one_more, not_past}, access.put_set_part.Goals.{in-Some+in_ok-put_account_part, in_default}}
 use Rattle.access_report.proofs.access.put_set_part.Goals as goal
-use Rattle.access_report.proofs.access.put_set_part.Goals.{in-Some+in_ok-put_account_part, in_default}
 
 pub loop-index-preserved : goal.loop-index-preserved
 loop-index-preserved c =

@@ -1,10 +1,8 @@
 -- One more is put, and at the end all are.
 use Rattle.std.proofs.Common.{List, ◌∙◌, ap, arith, get_or, length}
 use Rattle.mon_device.proofs.Putting.{puts_nothing, puts_each, puts_all}
-use Rattle.mon_acl.specs.declared.entries.Entry.{Entry}
-use Rattle.mon_acl.specs.Entries.{mask_of}
-use Rattle.acl_text.specs.Printing.{long_line}
-use Rattle.acl_text.proofs.Putting.{line_so}
+use Rattle.mon_acl.specs.{declared.entries.Entry.{Entry}, Entries.{mask_of}}
+use Rattle.acl_text.{specs.Printing.{long_line}, proofs.Putting.{line_so}}
 use Rattle.acl_text.proofs.forms.print_long.Goals as goal
 
 pub loop-entry-init : goal.loop-entry-init

@@ -1,7 +1,6 @@
 use Rattle.std.proofs.Common.{◌∙◌, ap}
 use Rattle.std.specs.Prelude.{Bool}
-use Rattle.acl_text.specs.Printing.{letter}
-use Rattle.acl_text.proofs.Putting.{perms_put}
+use Rattle.acl_text.{specs.Printing.{letter}, proofs.Putting.{perms_put}}
 use Rattle.acl_text.proofs.forms.print_perms.Goals as goal
 
 pub returns : goal.returns

@@ -1,5 +1,4 @@
-use Rattle.acl_text.specs.Texts.{pieces}
-use Rattle.acl_text.proofs.Whole.{gives_list, gives_only, gives_refusal}
+use Rattle.acl_text.{specs.Texts.{pieces}, proofs.Whole.{gives_list, gives_only, gives_refusal}}
 use Rattle.acl_text.proofs.parser.parse_short.Goals as goal
 
 pub returns-clause-spelled : goal.returns-clause-spelled

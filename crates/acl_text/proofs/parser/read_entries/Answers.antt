@@ -2,8 +2,7 @@ use Rattle.std.proofs.Common.{rules, ap, sym, subst, Err, Ok, IsOk, ◌≡◌, a
 use Rattle.std.proofs.lemmas.Result.{err_from_is_err_and}
 use Rattle.mon_text.specs.declared.stop.Stop.TheVariants.{Memory}
 use Rattle.mon_acl.specs.Entries.{IsCanonical}
-use Rattle.acl_text.specs.inner.Building.{pieces_in, pieces_left, entry_added, canonical_entries_of}
-use Rattle.acl_text.proofs.Order.{none_sorted}
+use Rattle.acl_text.{specs.inner.Building.{pieces_in, pieces_left, entry_added, canonical_entries_of}, proofs.Order.{none_sorted}}
 use Rattle.acl_text.proofs.Steps.{Stops, exit, stops_of_gives, none_read, more_read, all_read, piece_stops, piece_grows, piece_sorted, stopped_for}
 use Rattle.acl_text.proofs.parser.read_entries.Goals as goal
 

@@ -1,9 +1,7 @@
 use Rattle.std.proofs.Common.{◌≡◌, false, length, ◌+◌, ◌≤◌, IfSome, option_copied}
 use Rattle.std.specs.List.{list_any}
-use Rattle.acl_text.specs.Texts.{is_hash}
+use Rattle.acl_text.{specs.Texts.{is_hash}, specs.inner.Building.{pieces_in, pieces_left, left}, proofs.Steps.{IsReadTo}}
 use Rattle.mon_acl.specs.Entries.{IsCanonical}
-use Rattle.acl_text.specs.inner.Building.{pieces_in, pieces_left, left}
-use Rattle.acl_text.proofs.Steps.{IsReadTo}
 use Rattle.acl_text.proofs.parser.read_entries.Given as goal
 
 abbrev pub invariant-loop-entry : goal.invariant-loop-entry

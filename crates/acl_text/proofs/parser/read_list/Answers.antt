@@ -1,9 +1,6 @@
 use Rattle.std.proofs.Common.{Some, None, Ok, refl, List, ◌∙◌, ap, sym}
 use Rattle.mon_acl.specs.declared.entries.Entry.{Entry}
-use Rattle.acl_text.specs.Refusals.{lacking}
-use Rattle.acl_text.specs.inner.Building.{pieces_in}
-use Rattle.acl_text.proofs.Steps.{read_whole, five_read}
-use Rattle.acl_text.proofs.Valid.{read_acl}
+use Rattle.acl_text.{specs.Refusals.{lacking}, specs.inner.Building.{pieces_in}, proofs.Steps.{read_whole, five_read}, proofs.Valid.{read_acl}}
 use Rattle.acl_text.proofs.parser.read_list.Goals as goal
 
 pub returns-in-Some-clause-read : goal.returns-in-Some-clause-read

@@ -1,8 +1,6 @@
 use Rattle.std.proofs.Common.{◌≡◌, ◌≤◌, false, IfSome, option_copied}
 use Rattle.std.specs.List.{list_any}
-use Rattle.acl_text.specs.Texts.{is_hash}
-use Rattle.acl_text.specs.inner.Building.{pieces_left, left}
-use Rattle.acl_text.specs.declared.pieces.Form.TheVariants.{Long}
+use Rattle.acl_text.specs.{Texts.{is_hash}, inner.Building.{pieces_left, left}, declared.pieces.Form.TheVariants.{Long}}
 use Rattle.acl_text.proofs.pieces.next_filled_line.Given as goal
 
 abbrev pub invariant-loop-rest : goal.invariant-loop-rest

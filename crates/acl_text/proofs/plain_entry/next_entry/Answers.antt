@@ -1,8 +1,5 @@
 use Rattle.std.proofs.Common.{◌++◌, ◌∙◌, ap, ℕ, option_copied}
-use Rattle.acl_text.specs.Texts.{is_hash}
-use Rattle.acl_text.specs.Printing.{entry_text}
-use Rattle.acl_text.specs.inner.Building.{separated}
-use Rattle.acl_text.proofs.Plainly.{plain_next, plain_clean}
+use Rattle.acl_text.{specs.Texts.{is_hash}, specs.Printing.{entry_text}, specs.inner.Building.{separated}, proofs.Plainly.{plain_next, plain_clean}}
 use Rattle.acl_text.proofs.plain_entry.next_entry.Goals as goal
 
 pub returns-in-Some-clause-next : goal.returns-in-Some-clause-next

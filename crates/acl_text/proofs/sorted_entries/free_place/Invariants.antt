@@ -1,6 +1,5 @@
 use Rattle.std.proofs.Common.{◌≡◌, ◌≤◌, ◌-◌, length}
-use Rattle.std.specs.List.{AllWithin}
-use Rattle.std.specs.declared.cmp.Ordering.TheVariants.{Greater}
+use Rattle.std.specs.{List.{AllWithin}, declared.cmp.Ordering.TheVariants.{Greater}}
 use Rattle.mon_acl.specs.Entries.{compared}
 use Rattle.acl_text.proofs.sorted_entries.free_place.Given as goal
 

@@ -1,7 +1,5 @@
 use Rattle.std.proofs.Common.{[], ap, sym, ◌∙◌}
-use Rattle.std.specs.Prelude.{Option, option_copied}
-use Rattle.std.specs.List.{flat_map}
-use Rattle.std.specs.Option.{option_map_or}
+use Rattle.std.specs.{Prelude.{Option, option_copied}, List.{flat_map}, Option.{option_map_or}}
 use Rattle.mon_access.specs.declared.account.Account.{Account}
 use Rattle.mon_guard.specs.Views.{names_shown}
 use Rattle.mon_device.proofs.Putting.{puts_nothing, puts_same}

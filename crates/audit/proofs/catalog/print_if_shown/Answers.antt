@@ -1,7 +1,6 @@
 use Rattle.std.proofs.Common.{ap, sym, ◌∙◌}
 use Rattle.mon_device.proofs.Putting.{puts_nothing, puts_same}
-use Rattle.audit.specs.Grants.{granting_entry}
-use Rattle.audit.proofs.Catalogs.{shown_is}
+use Rattle.audit.{specs.Grants.{granting_entry}, proofs.Catalogs.{shown_is}}
 use Rattle.audit.proofs.catalog.print_if_shown.Goals as goal
 
 pub returns-in-Some : goal.returns-in-Some

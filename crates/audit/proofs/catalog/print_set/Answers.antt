@@ -1,8 +1,5 @@
 use Rattle.std.proofs.Common.{ℕ, List, [], ◌∷◌, ap, sym, ◌∙◌}
-use Rattle.std.specs.Prelude.{Option, option_map}
-use Rattle.std.specs.Map.Iter.{deref_pair}
-use Rattle.std.specs.Option.{option_map_or}
-use Rattle.std.specs.List.{flat_map}
+use Rattle.std.specs.{Prelude.{Option, option_map}, Map.Iter.{deref_pair}, Option.{option_map_or}, List.{flat_map}}
 use Rattle.mon_catalogue.specs.declared.data_set.DataSet.{DataSet}
 use Rattle.mon_guard.specs.Views.{names_shown}
 use Rattle.mon_device.proofs.Putting.{puts_nothing, puts_same}

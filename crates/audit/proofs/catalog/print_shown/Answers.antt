@@ -1,7 +1,6 @@
 use Rattle.std.proofs.Common.{ap, sym}
 use Rattle.mon_access.specs.Accounts.{find_account}
-use Rattle.deck_lines.specs.declared.command.Command.{Command}
-use Rattle.deck_lines.specs.Commands.{account_of}
+use Rattle.deck_lines.specs.{declared.command.Command.{Command}, Commands.{account_of}}
 use Rattle.mon_device.proofs.Putting.{puts_nothing, puts_same}
 use Rattle.audit.specs.Catalogs.{shown_lines}
 use Rattle.audit.proofs.catalog.print_shown.Goals as goal

@@ -2,8 +2,7 @@ use Rattle.std.proofs.Common.{ap, sym, ◌∙◌}
 use Rattle.deck_lines.specs.declared.command.Command.{Command}
 use Rattle.mon_device.proofs.Putting.{puts_nothing, puts_same}
 use Rattle.mon_command.specs.Printouts.{word}
-use Rattle.audit.specs.Commands.{done_words}
-use Rattle.audit.specs.inner.Parts.{listed}
+use Rattle.audit.specs.{Commands.{done_words}, inner.Parts.{listed}}
 use Rattle.audit.proofs.command.print_done.Goals as goal
 
 pub returns-in-Create : goal.returns-in-Create

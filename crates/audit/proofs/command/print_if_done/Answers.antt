@@ -1,8 +1,7 @@
 use Rattle.std.proofs.Common.{ap, sym}
 use Rattle.mon_command.specs.declared.said.Said.{Said}
 use Rattle.mon_device.proofs.Putting.{puts_nothing, puts_same}
-use Rattle.audit.specs.Commands.{done_words, if_done}
-use Rattle.audit.specs.inner.Parts.{listed}
+use Rattle.audit.specs.{Commands.{done_words, if_done}, inner.Parts.{listed}}
 use Rattle.audit.proofs.command.print_if_done.Goals as goal
 
 pub returns-in-Records : goal.returns-in-Records

@@ -1,8 +1,7 @@
 use Rattle.std.proofs.Common.{ap, sym}
 use Rattle.mon_command.specs.declared.reply.Reply.{Reply}
 use Rattle.mon_device.proofs.Putting.{puts_nothing, puts_same}
-use Rattle.audit.specs.Commands.{done_words}
-use Rattle.audit.specs.inner.Parts.{if_reply_done, listed}
+use Rattle.audit.specs.{Commands.{done_words}, inner.Parts.{if_reply_done, listed}}
 use Rattle.audit.proofs.command.print_if_reply_done.Goals as goal
 
 pub returns-in-NoAccount : goal.returns-in-NoAccount

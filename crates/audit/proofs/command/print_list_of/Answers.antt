@@ -1,6 +1,5 @@
 use Rattle.std.proofs.Common.{[], ap, sym, ◌∙◌}
-use Rattle.std.specs.Prelude.{Option, option_copied}
-use Rattle.std.specs.Option.{option_map_or}
+use Rattle.std.specs.{Prelude.{Option, option_copied}, Option.{option_map_or}}
 use Rattle.acl_text.specs.Printing.{short_form}
 use Rattle.mon_catalogue.specs.declared.data_set.DataSet.{DataSet}
 use Rattle.mon_command.specs.Printouts.{word}

@@ -2,9 +2,7 @@ use Rattle.std.proofs.Common.{Bool, [], ap, sym, ◌∙◌, if◌then◌else◌}
 use Rattle.mon_access.specs.Accounts.{find_account}
 use Rattle.deck_lines.specs.Commands.{account_of}
 use Rattle.mon_device.proofs.Putting.{puts_nothing, puts_same}
-use Rattle.audit.specs.Grants.{granted_words}
-use Rattle.audit.specs.inner.Parts.{grant_after}
-use Rattle.audit.proofs.Granted.{granted_last}
+use Rattle.audit.{specs.Grants.{granted_words}, specs.inner.Parts.{grant_after}, proofs.Granted.{granted_last}}
 use Rattle.audit.proofs.grants.print_granted_by.Goals as goal
 
 pub returns-then-is_granted : goal.returns-then-is_granted

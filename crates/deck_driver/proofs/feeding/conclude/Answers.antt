@@ -1,7 +1,5 @@
 use Rattle.std.proofs.Common.{refl, ap, subst, [], ◌∙◌}
-use Rattle.deck_driver.specs.declared.section.DeckState.{DeckState}
-use Rattle.deck_driver.specs.Feeds.{outcome, IsReadBack}
-use Rattle.deck_driver.proofs.Telling.{reading_ends}
+use Rattle.deck_driver.{specs.declared.section.DeckState.{DeckState}, specs.Feeds.{outcome, IsReadBack}, proofs.Telling.{reading_ends}}
 use Rattle.deck_driver.proofs.feeding.conclude.Goals as goal
 
 pub returns-in-Reading-clause-refused : goal.returns-in-Reading-clause-refused

@@ -1,6 +1,5 @@
 use Rattle.std.proofs.Common.{refl, sym, ◌∙◌, ◌+◌, [], ◌∷◌, ◌++◌, arith}
-use Rattle.deck_driver.specs.Feeds.{outcome}
-use Rattle.deck_driver.proofs.Beginnings.{only_appends, nothing_printed}
+use Rattle.deck_driver.{specs.Feeds.{outcome}, proofs.Beginnings.{only_appends, nothing_printed}}
 use Rattle.deck_driver.proofs.Telling.{last_good, last_bad, last_begun, none_good, none_bad, begun_last, broken_last, stop_bad}
 use Rattle.deck_driver.proofs.feeding.end.Goals as goal
 

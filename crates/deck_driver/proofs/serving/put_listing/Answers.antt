@@ -1,7 +1,6 @@
 use Rattle.std.proofs.Common.{refl}
 use Rattle.std.proofs.lemmas.Result.{on_ok_weaker}
-use Rattle.mon_monitor.specs.Abstraction.{system_of}
-use Rattle.mon_monitor.specs.Events.{Serve}
+use Rattle.mon_monitor.specs.{Abstraction.{system_of}, Events.{Serve}}
 use Rattle.deck_lines.specs.declared.command.Command.TheVariants.{List as Listing}
 use Rattle.deck_syntax.specs.Decks.{Commands}
 use Rattle.deck_reader.specs.declared.stream_reader.Event.TheVariants.{Asks}

@@ -1,7 +1,6 @@
 use Rattle.std.proofs.Common.{◌++◌, ◌∙◌, sym, ap, append-nil}
 use Rattle.std.proofs.lemmas.List.{drop_all}
-use Rattle.deck_lint.specs.Refused.{ties_refused}
-use Rattle.deck_lint.proofs.Tying.{ties_more}
+use Rattle.deck_lint.{specs.Refused.{ties_refused}, proofs.Tying.{ties_more}}
 use Rattle.deck_lint.proofs.ties.put_ties.Goals as goal
 
 pub loop-card-preserved : goal.loop-card-preserved

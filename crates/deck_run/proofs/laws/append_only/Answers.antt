@@ -1,6 +1,5 @@
 use Rattle.mon_monitor.specs.SystemStates.{SystemState}
-use Rattle.deck_run.specs.Runs.{run_state_of}
-use Rattle.deck_run.specs.Headline.{asked_of}
+use Rattle.deck_run.specs.{Runs.{run_state_of}, Headline.{asked_of}}
 use Rattle.deck_run.proofs.laws.append_only.Goals as goal
 
 pub returns : goal.returns

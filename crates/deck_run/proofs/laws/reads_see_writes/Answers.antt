@@ -1,5 +1,4 @@
-use Rattle.deck_run.specs.Runs.{run_state_of}
-use Rattle.deck_run.specs.Headline.{asked_of}
+use Rattle.deck_run.specs.{Runs.{run_state_of}, Headline.{asked_of}}
 use Rattle.deck_run.proofs.laws.reads_see_writes.Goals as goal
 
 pub returns : goal.returns

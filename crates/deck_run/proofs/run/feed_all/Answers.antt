@@ -1,9 +1,7 @@
 use Rattle.std.proofs.Common.{rules, refl, inl, [], arith, ◌≡◌, ◌≤◌, ◌++◌, List, ℕ, length, take, ap, subst, ◌∙◌, length-take}
 use Rattle.std.proofs.lemmas.List.{take_at}
 use Rattle.mon_device.proofs.Putting.{puts_nothing}
-use Rattle.deck_run.specs.inner.Writing.{Refuses, Starts, Stands, IsDue, BrokeOffAt}
-use Rattle.deck_run.specs.inner.Ahead.{IsAhead}
-use Rattle.deck_run.proofs.Ahead.{later_ahead, piece_ahead}
+use Rattle.deck_run.{specs.inner.Writing.{Refuses, Starts, Stands, IsDue, BrokeOffAt}, specs.inner.Ahead.{IsAhead}, proofs.Ahead.{later_ahead, piece_ahead}}
 use Rattle.deck_run.proofs.Running.{on_err, gives_nothing, gives_more, begins, begun_at_start, broke_at_start, goes_on, begun_further, due_further, broke_within, midway, none_given, none_read, at_read, given_same, memory_so}
 use Rattle.deck_driver.proofs.Telling.{refused_so}
 use Rattle.deck_run.proofs.run.feed_all.Goals as goal

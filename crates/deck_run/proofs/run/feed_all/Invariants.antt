@@ -2,8 +2,7 @@
 use Rattle.std.proofs.Common.{◌≡◌, ◌≤◌, ◌*◌, ◌+◌, true, false, [], List, ℕ, vec_len}
 use Rattle.mon_device.specs.Devices.{HasRead}
 use Rattle.deck_driver.specs.Feeds.{IsReadBack}
-use Rattle.deck_run.specs.inner.Writing.{Runs, IsDue}
-use Rattle.deck_run.specs.inner.Ahead.{IsAhead}
+use Rattle.deck_run.specs.inner.{Writing.{Runs, IsDue}, Ahead.{IsAhead}}
 use Rattle.deck_run.proofs.run.feed_all.Given as goal
 
 abbrev pub invariant-loop-read : goal.invariant-loop-read

@@ -1,9 +1,6 @@
 use Rattle.std.proofs.Common.{◌≡◌, List, ℕ, ap, ◌∙◌}
-use Rattle.mon_device.specs.Devices.{holding}
-use Rattle.mon_device.proofs.Holding.{holding-nothing}
-use Rattle.deck_run.proofs.Holdings.{still_read, flushed}
-use Rattle.deck_run.proofs.Ahead.{ends_ahead}
-use Rattle.deck_run.proofs.Running.{finish_ended, finish_refused, finish_begun}
+use Rattle.mon_device.{specs.Devices.{holding}, proofs.Holding.{holding-nothing}}
+use Rattle.deck_run.proofs.{Holdings.{still_read, flushed}, Ahead.{ends_ahead}, Running.{finish_ended, finish_refused, finish_begun}}
 use Rattle.deck_run.proofs.run.finish.Goals as goal
 
 pub returns-in-Ok-clause-ended : goal.returns-in-Ok-clause-ended

@@ -1,11 +1,9 @@
 use Rattle.std.proofs.Common.{rules, refl, inl, ◌≡◌, ◌∙◌, sym, subst, [], List, ℕ, Option}
 use Rattle.deck_syntax.specs.Decks.{Stopped, Refused}
-use Rattle.deck_run.specs.Runs.{deck_ending, HasWritten, HasRun, HasBegun, HasBrokenOff, HasBrokenOffAt}
+use Rattle.deck_run.specs.{Runs.{deck_ending, HasWritten, HasRun, HasBegun, HasBrokenOff, HasBrokenOffAt}, Audited.{IsWrittenAhead}}
+use Rattle.deck_run.proofs.{Ahead.{finished_ahead, broken_ahead}, Due.{due, broken_off, broken_off_at}}
 use Rattle.deck_driver.proofs.Telling.{refused_so}
 use Rattle.deck_run.proofs.Running.{run_good, run_bad, met_bad, on_good, counts_good, if_some, IsGood, broken, finished, fault_so, memory_so, broke_behind, begun_at_start, broke_at_start}
-use Rattle.deck_run.specs.Audited.{IsWrittenAhead}
-use Rattle.deck_run.proofs.Ahead.{finished_ahead, broken_ahead}
-use Rattle.deck_run.proofs.Due.{due, broken_off, broken_off_at}
 use Rattle.deck_run.proofs.run.run_cards.Goals as goal
 
 pub returns-in-Ok-clause-stopped : goal.returns-in-Ok-clause-stopped

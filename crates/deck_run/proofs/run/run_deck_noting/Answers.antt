@@ -1,8 +1,7 @@
 use Rattle.std.proofs.Common.{◌≡◌, true, refl, sym, ap, subst}
 use Rattle.mon_device.specs.Putting.{Standing}
 use Rattle.deck_driver.specs.declared.fault.RunError.TheVariants.{DeckRefused, ReadFault, WriteFault, Memory}
-use Rattle.deck_run.specs.Audited.{is_broken}
-use Rattle.deck_run.specs.Runs.{HasRun, HasWritten, HasPrinted, HasBrokenOff, HasBrokenOffAt}
+use Rattle.deck_run.specs.{Audited.{is_broken}, Runs.{HasRun, HasWritten, HasPrinted, HasBrokenOff, HasBrokenOffAt}}
 use Rattle.deck_run.proofs.Ended.{ok_stays, counts_stay, was_so, fault_stays, audit_fault, good_ends, bad_ends, ahead_stays}
 use Rattle.deck_run.proofs.run.run_deck_noting.Goals as goal
 

@@ -1,13 +1,9 @@
 use Rattle.std.proofs.Common.{rules, inl, [], Result, Err, List, ℕ, ◌+◌, ◌≡◌, ◌∙◌, length, take, drop, ap, sym, subst, refl, arith}
 use Rattle.std.proofs.lemmas.List.{take_rest, length-drop}
 use Rattle.mon_text.proofs.Cutting.{nothing_kept}
-use Rattle.deck_driver.specs.declared.fault.RunError.{RunError}
-use Rattle.deck_driver.specs.declared.fault.RunError.TheVariants.{DeckRefused, Memory}
+use Rattle.deck_driver.specs.{declared.fault.RunError.{RunError}, declared.fault.RunError.TheVariants.{DeckRefused, Memory}, inner.Counting.{lines_ended}}
 use Rattle.deck_run.proofs.Holdings.{Far, not_grown, grown_further, all_told, far_at_start, starts_far, refuses_far, further, all_taken, breaks_off, stands_flushed}
-use Rattle.deck_run.proofs.Ahead.{ahead_far, gathered_ahead}
-use Rattle.deck_driver.specs.inner.Counting.{lines_ended}
-use Rattle.deck_run.specs.inner.Ending.{ended_by}
-use Rattle.deck_run.proofs.Counted.{one_at_most, due_further, due_behind}
+use Rattle.deck_run.{proofs.Ahead.{ahead_far, gathered_ahead}, specs.inner.Ending.{ended_by}, proofs.Counted.{one_at_most, due_further, due_behind}}
 use Rattle.deck_run.proofs.run.serve.Goals as goal
 
 pub returns-in_err-used-clause-begun : goal.returns-in_err-used-clause-begun

@@ -1,10 +1,7 @@
 -- What was written and gathered so far is what comes of the part of the piece that was taken, whatever follows.
 use Rattle.std.proofs.Common.{◌≡◌, ◌≤◌, ◌+◌, true, false, [], length}
-use Rattle.deck_driver.specs.Feeds.{IsReadBack, is_reading}
-use Rattle.deck_driver.specs.inner.Counting.{lines_ended}
-use Rattle.deck_run.specs.inner.Writing.{HasGrown}
-use Rattle.deck_run.specs.inner.Ahead.{IsAhead}
-use Rattle.deck_run.proofs.Holdings.{Far}
+use Rattle.deck_driver.specs.{Feeds.{IsReadBack, is_reading}, inner.Counting.{lines_ended}}
+use Rattle.deck_run.{specs.inner.Writing.{HasGrown}, specs.inner.Ahead.{IsAhead}, proofs.Holdings.{Far}}
 use Rattle.deck_run.proofs.run.serve.Given as goal
 
 abbrev pub invariant-lines : goal.invariant-lines

@@ -1,15 +1,10 @@
 use Rattle.std.proofs.Common.{◌≡◌, sym, ap, subst, ◌∙◌, ◌++◌, ◌+◌, List, ℕ, [], Result, IfErr}
 use Rattle.std.specs.Str.Lines.{lines}
-use Rattle.mon_device.specs.Devices.{holding}
-use Rattle.deck_driver.specs.declared.fault.RunError.{RunError}
-use Rattle.deck_driver.specs.declared.section.DeckState.{DeckState}
-use Rattle.deck_driver.specs.Feeds.{behind, outcome, stopped_by}
+use Rattle.mon_device.{specs.Devices.{holding}, proofs.Putting.{puts_then}}
+use Rattle.deck_driver.specs.{declared.fault.RunError.{RunError}, declared.section.DeckState.{DeckState}, Feeds.{behind, outcome, stopped_by}}
 use Rattle.deck_driver.proofs.Telling.{refused_so}
-use Rattle.mon_device.proofs.Putting.{puts_then}
-use Rattle.deck_run.specs.Runs.{HoldsBeginning}
+use Rattle.deck_run.{specs.Runs.{HoldsBeginning}, proofs.Ahead.{line_ahead, gathered_ahead}, proofs.Running.{memory_so, silent_put}}
 use Rattle.deck_run.proofs.Holdings.{still_read, flushed, serves_written, serves_flushed, refused_holds, starts_written, starts_flushed, has_grown}
-use Rattle.deck_run.proofs.Ahead.{line_ahead, gathered_ahead}
-use Rattle.deck_run.proofs.Running.{memory_so, silent_put}
 use Rattle.deck_run.proofs.run.serve_line.Goals as goal
 
 pub returns-in-Ok-flush_large-clause-served : goal.returns-in-Ok-flush_large-clause-served

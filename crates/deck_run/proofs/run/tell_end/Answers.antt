@@ -1,7 +1,6 @@
 use Rattle.std.proofs.Common.{◌∙◌, [], sym}
 use Rattle.mon_device.proofs.Putting.{puts_nothing, puts_same}
-use Rattle.deck_run.proofs.Holdings.{flushed}
-use Rattle.deck_run.proofs.Ahead.{nothing_told}
+use Rattle.deck_run.proofs.{Holdings.{flushed}, Ahead.{nothing_told}}
 use Rattle.deck_run.proofs.run.tell_end.Goals as goal
 
 pub returns-then-is_broken-clause-puts : goal.returns-then-is_broken-clause-puts

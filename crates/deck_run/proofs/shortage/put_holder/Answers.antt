@@ -1,6 +1,5 @@
 use Rattle.std.proofs.Common.{◌≡◌, ℕ, List, ◌++◌, Result, Ok, Err, OnOk, if◌then◌else◌, ap, ◌∙◌, append_assoc}
-use Rattle.std.specs.Prelude.{codes, decimal}
-use Rattle.std.specs.Result.{is_ok}
+use Rattle.std.specs.{Prelude.{codes, decimal}, Result.{is_ok}}
 use Rattle.deck_run.specs.Faults.{name_text}
 use Rattle.deck_run.proofs.shortage.put_holder.Goals as goal
 

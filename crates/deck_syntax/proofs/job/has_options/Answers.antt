@@ -1,6 +1,5 @@
 use Rattle.std.proofs.Common.{sym, ap, ◌∙◌}
-use Rattle.deck_syntax.specs.Jobs.{are_options}
-use Rattle.deck_syntax.proofs.Options.{of_four}
+use Rattle.deck_syntax.{specs.Jobs.{are_options}, proofs.Options.{of_four}}
 use Rattle.deck_syntax.proofs.job.has_options.Goals as goal
 
 pub returns-in-4 : goal.returns-in-4

@@ -1,7 +1,6 @@
 use Rattle.std.proofs.Common.{◌≡◌, ℕ, List, nat_lt, length, drop, sym, ap, subst, ◌∙◌, IfOk}
-use Rattle.deck_syntax.specs.Jobs.{are_options, limits_refusal, usual_limits, with_option}
+use Rattle.deck_syntax.{specs.Jobs.{are_options, limits_refusal, usual_limits, with_option}, proofs.Options.{one_option, two_options, second_of}}
 use Rattle.deck_lines.specs.inner.Stops.{Answers}
-use Rattle.deck_syntax.proofs.Options.{one_option, two_options, second_of}
 use Rattle.deck_syntax.proofs.job.read_limits.Goals as goal
 use Rattle.std.specs.List.{fold}
 

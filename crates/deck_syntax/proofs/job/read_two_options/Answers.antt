@@ -1,5 +1,4 @@
-use Rattle.deck_syntax.specs.Jobs.{sets_statements, sets_steps}
-use Rattle.deck_syntax.proofs.Options.{first_is, other_is}
+use Rattle.deck_syntax.{specs.Jobs.{sets_statements, sets_steps}, proofs.Options.{first_is, other_is}}
 use Rattle.deck_syntax.proofs.job.read_two_options.Goals as goal
 
 pub option_number-requires : goal.option_number-requires

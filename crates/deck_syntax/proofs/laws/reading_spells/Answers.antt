@@ -1,5 +1,4 @@
-use Rattle.deck_syntax.proofs.Complete.{deck_taken}
-use Rattle.deck_syntax.proofs.Sound.{deck_spelled}
+use Rattle.deck_syntax.proofs.{Complete.{deck_taken}, Sound.{deck_spelled}}
 use Rattle.deck_syntax.proofs.laws.reading_spells.Goals as goal
 
 pub returns : goal.returns

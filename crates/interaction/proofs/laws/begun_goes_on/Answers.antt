@@ -1,6 +1,4 @@
-use Rattle.interaction.proofs.InteractionRuns.{goes_on}
-use Rattle.interaction.specs.Fitting.{Fits}
-use Rattle.interaction.proofs.Answering.{some_answer}
+use Rattle.interaction.{proofs.InteractionRuns.{goes_on}, specs.Fitting.{Fits}, proofs.Answering.{some_answer}}
 use Rattle.interaction.proofs.laws.begun_goes_on.Goals as goal
 
 pub returns : goal.returns

@@ -1,5 +1,4 @@
-use Rattle.interaction.proofs.InteractionRuns.{alike_first}
-use Rattle.interaction.specs.Fitting.{Fits}
+use Rattle.interaction.{proofs.InteractionRuns.{alike_first}, specs.Fitting.{Fits}}
 use Rattle.interaction.proofs.laws.runs_alike.Goals as goal
 
 pub returns : goal.returns

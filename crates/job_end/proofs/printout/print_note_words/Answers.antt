@@ -1,7 +1,6 @@
 use Rattle.std.proofs.Common.{ap, sym}
 use Rattle.interaction.specs.declared.answer.Reason.{Reason}
-use Rattle.mon_command.specs.Printouts.{word}
-use Rattle.mon_command.specs.Replies.{reason_text}
+use Rattle.mon_command.specs.{Printouts.{word}, Replies.{reason_text}}
 use Rattle.mon_unit.specs.declared.note.Why.{Why}
 use Rattle.job_end.specs.Printouts.{exchange_words, note_words}
 use Rattle.mon_device.proofs.Putting.{puts_three, puts_then, puts_same}

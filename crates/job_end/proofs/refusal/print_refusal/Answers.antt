@@ -1,7 +1,6 @@
 use Rattle.std.proofs.Common.{◌≡◌, ◌≢◌, ℕ, List, [], ◌++◌, refl, ap, sym}
 use Rattle.std.specs.Prelude.{codes}
-use Rattle.load_refusal.specs.declared.load_error.LoadError.{LoadError}
-use Rattle.load_refusal.specs.declared.load_error.LoadError.TheVariants.{NoSlot, NoAccount, Cards, Syntax}
+use Rattle.load_refusal.specs.declared.load_error.LoadError.{LoadError, TheVariants.{NoSlot, NoAccount, Cards, Syntax}}
 use Rattle.audit.specs.Words.{job_line}
 use Rattle.job_end.specs.Printouts.{refusal_words, refusal_text}
 use Rattle.mon_device.proofs.Putting.{puts_nothing, puts_same, puts_then, puts_three}

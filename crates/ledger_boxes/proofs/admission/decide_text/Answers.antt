@@ -1,5 +1,4 @@
-use Rattle.ledger_boxes.specs.Admission.{seen_decision}
-use Rattle.ledger_boxes.proofs.Deciding.{each_ok, its_text, by_submission, by_refusal}
+use Rattle.ledger_boxes.{specs.Admission.{seen_decision}, proofs.Deciding.{each_ok, its_text, by_submission, by_refusal}}
 use Rattle.ledger_boxes.proofs.admission.decide_text.Goals as goal
 
 pub decide_submission-requires : goal.decide_submission-requires

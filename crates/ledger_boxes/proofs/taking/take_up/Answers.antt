@@ -1,6 +1,5 @@
 use Rattle.std.proofs.Common.{refl}
-use Rattle.ledger_run.specs.Runs.{seen_ledger}
-use Rattle.ledger_run.proofs.Safety.{still_safe}
+use Rattle.ledger_run.{specs.Runs.{seen_ledger}, proofs.Safety.{still_safe}}
 use Rattle.ledger_boxes.proofs.taking.take_up.Goals as goal
 
 pub returns-in_err-decision-clause-any_moment : goal.returns-in_err-decision-clause-any_moment

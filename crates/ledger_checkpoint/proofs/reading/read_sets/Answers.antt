@@ -1,6 +1,5 @@
 use Rattle.std.proofs.Common.{[], sym, ◌∙◌}
-use Rattle.mon_catalogue.specs.declared.version.Version.TheVariants.{Two}
-use Rattle.mon_catalogue.specs.Progress.{SetDue}
+use Rattle.mon_catalogue.specs.{declared.version.Version.TheVariants.{Two}, Progress.{SetDue}}
 use Rattle.ledger_checkpoint.proofs.Taken.{takes_next, ends_at}
 use Rattle.ledger_checkpoint.proofs.reading.read_sets.Goals as goal
 

@@ -1,7 +1,6 @@
 -- Whatever texts are taken for the entries that are left: with those so far they are texts for all.
 use Rattle.std.proofs.Common.{[], drop, ◌+◌, ◌≤◌, ◌^◌}
-use Rattle.mon_catalogue.specs.Progress.{lines_taken, SetDue}
-use Rattle.mon_catalogue.specs.declared.version.Version.TheVariants.{Two}
+use Rattle.mon_catalogue.specs.{Progress.{lines_taken, SetDue}, declared.version.Version.TheVariants.{Two}}
 use Rattle.ledger_index.specs.Index.{seen_entries}
 use Rattle.ledger_checkpoint.proofs.Taken.{Ahead}
 use Rattle.ledger_checkpoint.proofs.reading.read_sets.Given as goal

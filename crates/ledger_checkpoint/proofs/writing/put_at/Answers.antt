@@ -1,9 +1,7 @@
 use Rattle.std.proofs.Common.{sym, ap, ◌∙◌}
-use Rattle.std.specs.Option.{option_map}
-use Rattle.std.specs.Map.Iter.{deref_pair}
+use Rattle.std.specs.{Option.{option_map}, Map.Iter.{deref_pair}}
 use Rattle.ledger_sets.proofs.Walking.{none_past}
-use Rattle.ledger_checkpoint.specs.Writing.{texts_in}
-use Rattle.ledger_checkpoint.proofs.Standing.{entries_on, lines_on}
+use Rattle.ledger_checkpoint.{specs.Writing.{texts_in}, proofs.Standing.{entries_on, lines_on}}
 use Rattle.ledger_checkpoint.proofs.writing.put_at.Goals as goal
 
 pub returns-in_ok-put_set-in-Some-clause-entries : goal.returns-in_ok-put_set-in-Some-clause-entries

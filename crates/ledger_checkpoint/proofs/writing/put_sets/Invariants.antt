@@ -1,7 +1,6 @@
 -- With those that are left it comes to all.
 use Rattle.std.proofs.Common.{◌≡◌, ◌++◌, length, drop}
-use Rattle.ledger_checkpoint.specs.Checkpoints.{entries_from, lines_text}
-use Rattle.ledger_checkpoint.specs.Writing.{texts_in, entry_texts}
+use Rattle.ledger_checkpoint.specs.{Checkpoints.{entries_from, lines_text}, Writing.{texts_in, entry_texts}}
 use Rattle.ledger_checkpoint.proofs.writing.put_sets.Given as goal
 
 abbrev pub invariant-loop-place : goal.invariant-loop-place

@@ -1,7 +1,6 @@
 -- What is wanted of the calls that are left is what was wanted of all.
 use Rattle.std.proofs.Common.{◌≡◌, ◌-◌, length, map, take}
-use Rattle.ledger_disk.specs.Disks.{after_all, found_in, empty}
-use Rattle.ledger_disk.specs.Memory.{entry_call}
+use Rattle.ledger_disk.specs.{Disks.{after_all, found_in, empty}, Memory.{entry_call}}
 use Rattle.ledger_disk.proofs.memory.found.Given as goal
 
 abbrev pub invariant-loop-index : goal.invariant-loop-index

@@ -1,7 +1,6 @@
 -- What is wanted of the calls that are left is what was wanted of all.
 use Rattle.std.proofs.Common.{◌≡◌, ◌-◌, length, map, take}
-use Rattle.ledger_disk.specs.Disks.{which_behind, none_there}
-use Rattle.ledger_disk.specs.Memory.{entry_call}
+use Rattle.ledger_disk.specs.{Disks.{which_behind, none_there}, Memory.{entry_call}}
 use Rattle.ledger_disk.proofs.memory.looked.Given as goal
 
 abbrev pub invariant-loop-index : goal.invariant-loop-index

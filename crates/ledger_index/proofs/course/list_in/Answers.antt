@@ -1,6 +1,5 @@
 use Rattle.std.proofs.Common.{option_map, sym, ap, ◌∙◌}
-use Rattle.ledger_index.specs.Course.{seen_numbered}
-use Rattle.ledger_index.proofs.Entries.{next_one}
+use Rattle.ledger_index.{specs.Course.{seen_numbered}, proofs.Entries.{next_one}}
 use Rattle.ledger_index.proofs.course.list_in.Goals as goal
 
 pub loop-field-preserved : goal.loop-field-preserved

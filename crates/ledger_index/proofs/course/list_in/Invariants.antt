@@ -1,7 +1,6 @@
 -- Those so far stand before those that are left.
 use Rattle.std.proofs.Common.{◌≡◌, map, drop}
-use Rattle.ledger_index.specs.Course.{seen_list, list_in}
-use Rattle.ledger_index.proofs.Entries.{list_behind}
+use Rattle.ledger_index.{specs.Course.{seen_list, list_in}, proofs.Entries.{list_behind}}
 use Rattle.ledger_index.proofs.course.list_in.Given as goal
 
 abbrev pub invariant-loop-field : goal.invariant-loop-field

@@ -1,7 +1,6 @@
 -- The entries so far stand before those that are left.
 use Rattle.std.proofs.Common.{◌≡◌, map, drop}
-use Rattle.ledger_index.specs.Index.{seen_entries, entries_of}
-use Rattle.ledger_index.proofs.Entries.{behind}
+use Rattle.ledger_index.{specs.Index.{seen_entries, entries_of}, proofs.Entries.{behind}}
 use Rattle.ledger_index.proofs.reading.entries_of.Given as goal
 
 abbrev pub invariant-loop-field : goal.invariant-loop-field

@@ -1,11 +1,8 @@
 use Rattle.std.proofs.Common.{List, length, sym, subst}
 use Rattle.job_end.specs.declared.job_end.JobEnd.{JobEnd}
-use Rattle.scheduler.specs.Marks.{rounds, turns_left, is_done}
-use Rattle.scheduler.specs.Turning.{UntilIs}
+use Rattle.scheduler.specs.{Marks.{rounds, turns_left, is_done}, Turning.{UntilIs}}
 use Rattle.mon_monitor.specs.Abstraction.{system_of}
-use Rattle.ledger_machine.proofs.Plain.{plainly}
-use Rattle.ledger_machine.proofs.Happening.{drained}
-use Rattle.ledger_machine.proofs.Going.{on_both}
+use Rattle.ledger_machine.proofs.{Plain.{plainly}, Happening.{drained}, Going.{on_both}}
 use Rattle.ledger_machine.proofs.events.drain.Goals as goal
 
 pub returns : goal.returns

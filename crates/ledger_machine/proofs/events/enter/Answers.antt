@@ -1,11 +1,8 @@
 use Rattle.std.proofs.Common.{List, length, sym, subst}
 use Rattle.job_end.specs.declared.job_end.JobEnd.{JobEnd}
-use Rattle.scheduler.specs.Marks.{rounds, turns_left, has_free_slot}
-use Rattle.scheduler.specs.Turning.{UntilIs}
-use Rattle.mon_monitor.specs.Abstraction.{system_of}
-use Rattle.mon_monitor.proofs.Playing.{on_ok}
-use Rattle.ledger_machine.proofs.Plain.{plainly}
-use Rattle.ledger_machine.proofs.Happening.{entered}
+use Rattle.scheduler.specs.{Marks.{rounds, turns_left, has_free_slot}, Turning.{UntilIs}}
+use Rattle.mon_monitor.{specs.Abstraction.{system_of}, proofs.Playing.{on_ok}}
+use Rattle.ledger_machine.proofs.{Plain.{plainly}, Happening.{entered}}
 use Rattle.ledger_machine.proofs.events.enter.Goals as goal
 
 pub returns : goal.returns

@@ -1,12 +1,8 @@
 use Rattle.std.proofs.Common.{[], ◌∷◌, ◌++◌, ℕ, List, Option, sym, ap, ◌∙◌, subst, append-nil, replicate}
-use Rattle.job_end.specs.declared.job_end.JobEnd.{JobEnd}
-use Rattle.job_end.specs.Printouts.{printout}
-use Rattle.scheduler.specs.Marks.{never}
-use Rattle.scheduler.specs.Turning.{MarkedIs, end_in}
+use Rattle.job_end.specs.{declared.job_end.JobEnd.{JobEnd}, Printouts.{printout}}
+use Rattle.scheduler.specs.{Marks.{never}, Turning.{MarkedIs, end_in}}
 use Rattle.mon_monitor.specs.Abstraction.{system_of}
-use Rattle.ledger_machine.proofs.Plain.{plainly}
-use Rattle.ledger_machine.proofs.Happening.{given}
-use Rattle.ledger_machine.proofs.Going.{on_both}
+use Rattle.ledger_machine.proofs.{Plain.{plainly}, Happening.{given}, Going.{on_both}}
 use Rattle.ledger_machine.proofs.events.give.Goals as goal
 
 pub returns-in-Some : goal.returns-in-Some

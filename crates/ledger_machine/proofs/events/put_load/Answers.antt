@@ -1,10 +1,7 @@
 use Rattle.std.proofs.Common.{◌≡◌, ◌++◌, ℕ, List, Err, refl, ap, ◌∙◌}
 use Rattle.mon_device.proofs.Putting.{puts_same}
-use Rattle.job_end.specs.Printouts.{refusal_text}
-use Rattle.job_end.specs.AuditLines.{loaded_line, refused_line}
-use Rattle.mon_monitor.specs.Abstraction.{system_of}
-use Rattle.mon_monitor.specs.Played.{loading}
-use Rattle.mon_monitor.proofs.Playing.{on_ok, load_done, load_refused, refused_is}
+use Rattle.job_end.specs.{Printouts.{refusal_text}, AuditLines.{loaded_line, refused_line}}
+use Rattle.mon_monitor.{specs.Abstraction.{system_of}, specs.Played.{loading}, proofs.Playing.{on_ok, load_done, load_refused, refused_is}}
 use Rattle.ledger_machine.proofs.events.put_load.Goals as goal
 
 pub returns-in-Ok : goal.returns-in-Ok

@@ -1,6 +1,4 @@
-use Rattle.mon_monitor.specs.Abstraction.{system_of}
-use Rattle.mon_monitor.specs.Events.{Serve}
-use Rattle.mon_monitor.proofs.Playing.{on_ok}
+use Rattle.mon_monitor.{specs.Abstraction.{system_of}, specs.Events.{Serve}, proofs.Playing.{on_ok}}
 use Rattle.ledger_machine.proofs.Going.{served}
 use Rattle.ledger_machine.proofs.events.serve.Goals as goal
 

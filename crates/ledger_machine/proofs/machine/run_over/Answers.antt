@@ -1,14 +1,10 @@
 use Rattle.std.proofs.Common.{ℕ, List, ap, ◌∙◌}
 use Rattle.std.specs.Str.Lines.{lines}
 use Rattle.mon_catalogue.specs.Sets.{Sets}
-use Rattle.mon_monitor.specs.Abstraction.{system_of}
-use Rattle.mon_monitor.specs.SystemStates.{first_system}
+use Rattle.mon_monitor.specs.{Abstraction.{system_of}, SystemStates.{first_system}}
 use Rattle.deck_syntax.specs.Sections.{Closed}
-use Rattle.ledger_sets.specs.Seeing.{site_of}
-use Rattle.ledger_sets.specs.Changes.{run_changes, change_text}
-use Rattle.ledger_machine.specs.Running.{asked_ahead}
-use Rattle.ledger_machine.specs.Steps.{slots}
-use Rattle.ledger_machine.proofs.Playing.{step_so}
+use Rattle.ledger_sets.specs.{Seeing.{site_of}, Changes.{run_changes, change_text}}
+use Rattle.ledger_machine.{specs.Running.{asked_ahead}, specs.Steps.{slots}, proofs.Playing.{step_so}}
 use Rattle.ledger_machine.proofs.machine.run_over.Goals as goal
 
 pub returns : goal.returns

@@ -1,8 +1,7 @@
 use Rattle.std.proofs.Common.{◌≡◌, ℕ, List, IfOk, sym, ap, ◌∙◌, subst}
 use Rattle.site_plan.specs.Tables.{table_of}
 use Rattle.ledger_sets.specs.Seeing.{site_of}
-use Rattle.ledger_machine.specs.Steps.{good_of}
-use Rattle.ledger_machine.proofs.Playing.{may_hand_in, step_is}
+use Rattle.ledger_machine.{specs.Steps.{good_of}, proofs.Playing.{may_hand_in, step_is}}
 use Rattle.ledger_machine.proofs.machine.run_text.Goals as goal
 
 pub returns : goal.returns

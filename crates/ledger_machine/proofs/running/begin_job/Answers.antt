@@ -1,6 +1,5 @@
 use Rattle.std.proofs.Common.{OnOk, subst}
-use Rattle.mon_monitor.specs.Abstraction.{system_of}
-use Rattle.mon_monitor.specs.Events.{Load}
+use Rattle.mon_monitor.specs.{Abstraction.{system_of}, Events.{Load}}
 use Rattle.deck_syntax.specs.declared.job_deck.JobDeck.{JobDeck}
 use Rattle.ledger_machine.specs.Running.{HappensTo}
 use Rattle.ledger_machine.proofs.running.begin_job.Goals as goal

@@ -1,6 +1,5 @@
 use Rattle.std.proofs.Common.{ap}
-use Rattle.mon_monitor.specs.Abstraction.{system_of}
-use Rattle.mon_monitor.proofs.Playing.{on_ok}
+use Rattle.mon_monitor.{specs.Abstraction.{system_of}, proofs.Playing.{on_ok}}
 use Rattle.preflight.specs.inner.Reading.{asks_of}
 use Rattle.ledger_machine.proofs.Going.{on_both, brings_nothing, brings_command, brings_turns, brings_drain, brings_job}
 use Rattle.ledger_machine.proofs.running.happen.Goals as goal

@@ -1,13 +1,10 @@
 use Rattle.std.proofs.Common.{◌∙◌, sym, subst}
 use Rattle.std.specs.Str.Lines.{lines}
 use Rattle.mon_text.proofs.Cutting.{nothing_kept}
-use Rattle.mon_monitor.specs.Abstraction.{system_of}
-use Rattle.mon_monitor.proofs.Playing.{on_ok}
+use Rattle.mon_monitor.{specs.Abstraction.{system_of}, proofs.Playing.{on_ok}}
 use Rattle.deck_syntax.specs.Sections.{Closed}
-use Rattle.deck_reader.specs.declared.stream_reader.Event.{Event}
-use Rattle.deck_reader.specs.Events.{open_in}
-use Rattle.ledger_machine.specs.Running.{place, Brings, asked_ahead}
-use Rattle.ledger_machine.proofs.Going.{stays, line_more, reached, ended, counted_to}
+use Rattle.deck_reader.specs.{declared.stream_reader.Event.{Event}, Events.{open_in}}
+use Rattle.ledger_machine.{specs.Running.{place, Brings, asked_ahead}, proofs.Going.{stays, line_more, reached, ended, counted_to}}
 use Rattle.ledger_machine.proofs.running.play.Goals as goal
 
 pub lines-init : goal.lines-init

@@ -1,9 +1,7 @@
 use Rattle.std.proofs.Common.{◌≡◌, Some, ap, ◌∙◌, subst}
 use Rattle.std.specs.Prelude.{IfOk}
 use Rattle.mon_catalogue.specs.Sets.{Sets}
-use Rattle.ledger_sets.specs.Applying.{Site, with_sets, after_change}
-use Rattle.ledger_sets.specs.Changes.{changes_between, change_text}
-use Rattle.ledger_sets.specs.Laws.{AreSmall}
+use Rattle.ledger_sets.specs.{Applying.{Site, with_sets, after_change}, Changes.{changes_between, change_text}, Laws.{AreSmall}}
 use Rattle.ledger_restoring.specs.Restoring.{restored}
 use Rattle.ledger_restoring.proofs.restoring.restore_change.Goals as goal
 

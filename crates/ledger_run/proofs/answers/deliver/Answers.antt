@@ -1,6 +1,5 @@
 use Rattle.std.proofs.Common.{map}
-use Rattle.ledger_run.specs.Owing.{owed_as}
-use Rattle.ledger_run.proofs.Planned.{answers}
+use Rattle.ledger_run.{specs.Owing.{owed_as}, proofs.Planned.{answers}}
 use Rattle.ledger_run.proofs.answers.deliver.Goals as goal
 
 pub returns-clause-any_moment : goal.returns-clause-any_moment

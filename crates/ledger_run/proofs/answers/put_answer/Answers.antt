@@ -1,7 +1,6 @@
 use Rattle.std.proofs.Common.{[], ◌∷◌}
 use Rattle.ledger_run.proofs.Planned.{both, then, within}
-use Rattle.ledger_disk.specs.Disks.{Write, SyncFile, Rename}
-use Rattle.ledger_disk.specs.declared.name.Name.TheVariants.{Answer, Unfinished}
+use Rattle.ledger_disk.specs.{Disks.{Write, SyncFile, Rename}, declared.name.Name.TheVariants.{Answer, Unfinished}}
 use Rattle.ledger_run.proofs.answers.put_answer.Goals as goal
 
 pub returns-in_err-sync_file-clause-began : goal.returns-in_err-sync_file-clause-began

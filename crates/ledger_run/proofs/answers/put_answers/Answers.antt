@@ -1,9 +1,7 @@
 use Rattle.std.proofs.Common.{[], ◌∷◌, ◌+◌, drop, map}
-use Rattle.ledger_disk.specs.Disks.{Write, SyncFile, Rename}
-use Rattle.ledger_disk.specs.declared.name.Name.TheVariants.{Answer, Unfinished}
+use Rattle.ledger_disk.specs.{Disks.{Write, SyncFile, Rename}, declared.name.Name.TheVariants.{Answer, Unfinished}}
 use Rattle.ledger_laws.specs.Answers.{deliver_calls}
-use Rattle.ledger_run.specs.Owing.{owed_as}
-use Rattle.ledger_run.proofs.Planned.{next_answer, step_as, stop_as}
+use Rattle.ledger_run.{specs.Owing.{owed_as}, proofs.Planned.{next_answer, step_as, stop_as}}
 use Rattle.ledger_run.proofs.answers.put_answers.Goals as goal
 
 pub returns-in_err-put_answer-clause-began : goal.returns-in_err-put_answer-clause-began

@@ -1,7 +1,5 @@
 use Rattle.std.proofs.Common.{refl, sym, ◌∙◌}
-use Rattle.ledger_run.specs.Runs.{seen_ledger}
-use Rattle.ledger_run.proofs.Safety.{still_safe, still_on}
-use Rattle.ledger_run.proofs.Answering.{none_waits, first_dropped}
+use Rattle.ledger_run.{specs.Runs.{seen_ledger}, proofs.Safety.{still_safe, still_on}, proofs.Answering.{none_waits, first_dropped}}
 use Rattle.ledger_run.proofs.attempts.drop_first.Goals as goal
 
 pub returns-in_default-clause-any_moment : goal.returns-in_default-clause-any_moment

@@ -1,6 +1,5 @@
 use Rattle.std.proofs.Common.{ℕ, List, refl, sym, subst}
-use Rattle.ledger_run.specs.Runs.{seen_ledger, CarriesOn}
-use Rattle.ledger_run.proofs.Safety.{still_safe, still_on}
+use Rattle.ledger_run.{specs.Runs.{seen_ledger, CarriesOn}, proofs.Safety.{still_safe, still_on}}
 use Rattle.ledger_run.proofs.attempts.try_first.Goals as goal
 
 pub returns-in-Err-clause-any_moment : goal.returns-in-Err-clause-any_moment

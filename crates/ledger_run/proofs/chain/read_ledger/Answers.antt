@@ -1,10 +1,6 @@
 use Rattle.std.proofs.Common.{◌≡◌, ◌+◌, ◌++◌, map, List, [], ◌∷◌, ℕ, Option, option_map, subst, sym, ap, ◌∙◌, arith}
 use Rattle.std.proofs.lemmas.List.{map-append}
-use Rattle.ledger_disk.specs.Disks.{Saw}
-use Rattle.ledger_disk.specs.Disks.{Disk as AnyDisk}
-use Rattle.ledger_disk.specs.Disks.{AreTrue}
-use Rattle.ledger_disk.specs.declared.name.Name.TheVariants.{Commit}
-use Rattle.ledger_disk.specs.Plans.{Did}
+use Rattle.ledger_disk.specs.{Disks.{Saw, Disk as AnyDisk, AreTrue}, declared.name.Name.TheVariants.{Commit}, Plans.{Did}}
 use Rattle.ledger_run.proofs.ReadingOn.{Reads, goes_on, ends_there, ends_last}
 use Rattle.ledger_run.proofs.chain.read_ledger.Goals as goal
 

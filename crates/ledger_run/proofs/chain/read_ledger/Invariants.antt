@@ -1,7 +1,6 @@
 -- What was read, and what is left, comes to what is read of all.
 use Rattle.std.proofs.Common.{map}
-use Rattle.ledger_disk.specs.Disks.{Disk as AnyDisk}
-use Rattle.ledger_disk.specs.Disks.{AreTrue}
+use Rattle.ledger_disk.specs.Disks.{Disk as AnyDisk, AreTrue}
 use Rattle.ledger_run.proofs.ReadingOn.{Reads}
 use Rattle.ledger_run.proofs.chain.read_ledger.Given as goal
 

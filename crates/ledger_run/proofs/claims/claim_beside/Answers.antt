@@ -1,7 +1,5 @@
 use Rattle.ledger_laws.specs.Claims.{claim_calls}
-use Rattle.ledger_run.specs.Runs.{seen_ledger}
-use Rattle.ledger_run.proofs.Refusing.{keeps}
-use Rattle.ledger_run.proofs.Aside.{claims_aside, aside_safe_from, aside_carries_on}
+use Rattle.ledger_run.{specs.Runs.{seen_ledger}, proofs.Refusing.{keeps}, proofs.Aside.{claims_aside, aside_safe_from, aside_carries_on}}
 use Rattle.ledger_run.proofs.claims.claim_beside.Goals as goal
 
 pub returns-in_err-make_claims-clause-kept : goal.returns-in_err-make_claims-clause-kept

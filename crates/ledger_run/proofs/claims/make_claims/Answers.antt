@@ -1,10 +1,7 @@
 use Rattle.std.proofs.Common.{ℕ, List, [], ◌∷◌, subst}
-use Rattle.ledger_disk.specs.declared.name.Folder.TheVariants.{Boxes}
-use Rattle.ledger_disk.specs.Disks.{SyncFolder}
+use Rattle.ledger_disk.specs.{declared.name.Folder.TheVariants.{Boxes}, Disks.{SyncFolder}}
 use Rattle.ledger_laws.specs.Claims.{removals}
-use Rattle.ledger_run.specs.Claiming.{DoesSome, DidSome}
-use Rattle.ledger_run.proofs.Planned.{whole}
-use Rattle.ledger_run.proofs.Refusing.{begun_links, begun_taken, begun_removals, begun_boxes}
+use Rattle.ledger_run.{specs.Claiming.{DoesSome, DidSome}, proofs.Planned.{whole}, proofs.Refusing.{begun_links, begun_taken, begun_removals, begun_boxes}}
 use Rattle.ledger_run.proofs.claims.make_claims.Goals as goal
 
 pub returns-in_err-link_each-clause-began : goal.returns-in_err-link_each-clause-began

@@ -1,10 +1,7 @@
 use Rattle.std.proofs.Common.{[], ◌∷◌, refl}
-use Rattle.ledger_disk.specs.Disks.{Remove}
-use Rattle.ledger_disk.specs.declared.name.Name.TheVariants.{Claimed}
+use Rattle.ledger_disk.specs.{Disks.{Remove}, declared.name.Name.TheVariants.{Claimed}}
 use Rattle.ledger_run.specs.Runs.{seen_ledger}
-use Rattle.ledger_run.proofs.Planned.{whole}
-use Rattle.ledger_run.proofs.Safety.{still_safe}
-use Rattle.ledger_run.proofs.Aside.{removed_aside, aside_safe_from, aside_carries_on}
+use Rattle.ledger_run.proofs.{Planned.{whole}, Safety.{still_safe}, Aside.{removed_aside, aside_safe_from, aside_carries_on}}
 use Rattle.ledger_run.proofs.claims.remove_claimed.Goals as goal
 
 pub returns-then-ledger-number-clause-any_moment : goal.returns-then-ledger-number-clause-any_moment

@@ -1,7 +1,6 @@
 use Rattle.std.proofs.Common.{[], ◌∷◌}
 use Rattle.ledger_run.proofs.Planned.{both, then, within}
-use Rattle.ledger_disk.specs.Disks.{Write, SyncFile, Rename, SyncFolder}
-use Rattle.ledger_disk.specs.declared.name.Name.TheVariants.{Commit, Draft}
+use Rattle.ledger_disk.specs.{Disks.{Write, SyncFile, Rename, SyncFolder}, declared.name.Name.TheVariants.{Commit, Draft}}
 use Rattle.ledger_disk.specs.declared.name.Folder.TheVariants.{Ledger}
 use Rattle.ledger_run.proofs.commits.put_commit.Goals as goal
 

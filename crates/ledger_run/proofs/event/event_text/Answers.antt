@@ -1,6 +1,5 @@
 use Rattle.std.proofs.Common.{◌≡◌, ◌<◌, ◌^◌, ℕ, true, List, [], ◌∷◌, length, ap, ◌∙◌, rules}
-use Rattle.ledger_text.specs.Text.{commit_text}
-use Rattle.ledger_text.specs.Records.{seen}
+use Rattle.ledger_text.specs.{Text.{commit_text}, Records.{seen}}
 use Rattle.ledger_run.proofs.Writing.{written, sent_written}
 use Rattle.ledger_run.proofs.event.event_text.Goals as goal
 

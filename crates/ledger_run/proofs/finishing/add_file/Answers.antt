@@ -1,8 +1,6 @@
 use Rattle.std.proofs.Common.{rules, List, sym, subst}
-use Rattle.ledger_disk.specs.declared.identity.Identity.{Identity}
-use Rattle.ledger_disk.specs.declared.name.Name.TheVariants.{Claimed}
-use Rattle.ledger_run.specs.Finishing.{Looks, Adds}
-use Rattle.ledger_run.proofs.Looking.{looks_none, looked_any, adds_file, adds_none}
+use Rattle.ledger_disk.specs.declared.{identity.Identity.{Identity}, name.Name.TheVariants.{Claimed}}
+use Rattle.ledger_run.{specs.Finishing.{Looks, Adds}, proofs.Looking.{looks_none, looked_any, adds_file, adds_none}}
 use Rattle.ledger_run.proofs.finishing.add_file.Goals as goal
 
 pub returns-in_err-file-clause-err : goal.returns-in_err-file-clause-err

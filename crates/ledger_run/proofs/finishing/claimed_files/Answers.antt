@@ -1,6 +1,5 @@
 use Rattle.std.proofs.Common.{rules, ℕ, Option, ◌^◌, subst}
-use Rattle.ledger_run.specs.Finishing.{Looks, Gathered, bound}
-use Rattle.ledger_run.proofs.Looking.{gathers_none, gathers_then, gathers_on, gathers_any}
+use Rattle.ledger_run.{specs.Finishing.{Looks, Gathered, bound}, proofs.Looking.{gathers_none, gathers_then, gathers_on, gathers_any}}
 use Rattle.ledger_run.proofs.finishing.claimed_files.Goals as goal
 
 pub loop-init : goal.loop-init

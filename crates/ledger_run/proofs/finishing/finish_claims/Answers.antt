@@ -1,7 +1,5 @@
 use Rattle.std.proofs.Common.{ℕ, List, subst}
-use Rattle.ledger_run.specs.Claiming.{DidSome, BeganSome}
-use Rattle.ledger_run.specs.Finishing.{leave_calls}
-use Rattle.ledger_run.proofs.Leaving.{leaves_later, leaves_begun, finishes}
+use Rattle.ledger_run.{specs.Claiming.{DidSome, BeganSome}, specs.Finishing.{leave_calls}, proofs.Leaving.{leaves_later, leaves_begun, finishes}}
 use Rattle.ledger_run.proofs.finishing.finish_claims.Goals as goal
 
 pub returns-in_err-sorted-clause-began : goal.returns-in_err-sorted-clause-began

@@ -1,8 +1,6 @@
 use Rattle.std.proofs.Common.{[], ◌∷◌}
-use Rattle.ledger_disk.specs.Disks.{SyncFolder}
-use Rattle.ledger_disk.specs.declared.name.Folder.TheVariants.{Boxes}
-use Rattle.ledger_run.proofs.Planned.{whole}
-use Rattle.ledger_run.proofs.Refusing.{left_begun, left_some}
+use Rattle.ledger_disk.specs.{Disks.{SyncFolder}, declared.name.Folder.TheVariants.{Boxes}}
+use Rattle.ledger_run.proofs.{Planned.{whole}, Refusing.{left_begun, left_some}}
 use Rattle.ledger_run.proofs.finishing.leave.Goals as goal
 
 pub returns-in_err-remove_each-clause-began : goal.returns-in_err-remove_each-clause-began

@@ -1,10 +1,7 @@
 use Rattle.std.proofs.Common.{rules, List, sym, subst}
 use Rattle.ledger_disk.specs.declared.name.Name.TheVariants.{Dropped}
 use Rattle.ledger_names.specs.declared.sorting.Boxed.{Boxed}
-use Rattle.ledger_run.specs.Finishing.{Looks}
-use Rattle.ledger_run.specs.Sorting.{SeesOne}
-use Rattle.ledger_run.proofs.Looking.{looks_none, looked_any}
-use Rattle.ledger_run.proofs.Sorting.{sees_file, sees_none}
+use Rattle.ledger_run.{specs.Finishing.{Looks}, specs.Sorting.{SeesOne}, proofs.Looking.{looks_none, looked_any}, proofs.Sorting.{sees_file, sees_none}}
 use Rattle.ledger_run.proofs.finishing.see_drop.Goals as goal
 
 pub returns-in_err-file-clause-err : goal.returns-in_err-file-clause-err

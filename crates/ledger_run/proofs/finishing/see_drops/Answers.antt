@@ -1,8 +1,6 @@
 use Rattle.std.proofs.Common.{rules, ℕ, List, take, slice_index, sym, subst}
 use Rattle.std.proofs.lemmas.List.{take_all}
-use Rattle.ledger_run.specs.Finishing.{Looks}
-use Rattle.ledger_run.specs.Sorting.{AreSeen}
-use Rattle.ledger_run.proofs.Sorting.{take_next, seen_first, seen_then, seen_on}
+use Rattle.ledger_run.{specs.Finishing.{Looks}, specs.Sorting.{AreSeen}, proofs.Sorting.{take_next, seen_first, seen_then, seen_on}}
 use Rattle.ledger_run.proofs.finishing.see_drops.Goals as goal
 
 pub loop-drop-init : goal.loop-drop-init

@@ -1,7 +1,6 @@
 -- Those so far are seen.
 use Rattle.std.proofs.Common.{take}
-use Rattle.ledger_run.specs.Finishing.{Looks}
-use Rattle.ledger_run.specs.Sorting.{AreSeen}
+use Rattle.ledger_run.specs.{Finishing.{Looks}, Sorting.{AreSeen}}
 use Rattle.ledger_run.proofs.finishing.see_drops.Given as goal
 
 abbrev pub invariant-loop-drop : goal.invariant-loop-drop

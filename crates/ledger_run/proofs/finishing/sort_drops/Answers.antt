@@ -1,7 +1,6 @@
 use Rattle.std.proofs.Common.{rules, ◌≡◌, ◌^◌}
 use Rattle.ledger_names.specs.Sorting.{done_of, left_of}
-use Rattle.ledger_run.proofs.Looking.{gathers_on}
-use Rattle.ledger_run.proofs.Sorting.{sorts, sorts_on}
+use Rattle.ledger_run.proofs.{Looking.{gathers_on}, Sorting.{sorts, sorts_on}}
 use Rattle.ledger_run.proofs.finishing.sort_drops.Goals as goal
 
 pub returns-in_err-boxed-clause-err : goal.returns-in_err-boxed-clause-err

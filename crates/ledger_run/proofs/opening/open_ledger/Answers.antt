@@ -1,7 +1,5 @@
 use Rattle.std.proofs.Common.{ℕ, List, subst}
-use Rattle.ledger_run.specs.Finishing.{LeavesFit}
-use Rattle.ledger_run.specs.Runs.{seen_ledger}
-use Rattle.ledger_run.proofs.Leaving.{leaves_none, leaves_fit, opens_finished}
+use Rattle.ledger_run.{specs.Finishing.{LeavesFit}, specs.Runs.{seen_ledger}, proofs.Leaving.{leaves_none, leaves_fit, opens_finished}}
 use Rattle.ledger_run.proofs.opening.open_ledger.Goals as goal
 
 pub returns-clause-opens : goal.returns-clause-opens

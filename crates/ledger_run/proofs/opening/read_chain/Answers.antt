@@ -1,7 +1,5 @@
 use Rattle.std.proofs.Common.{ℕ, List, ◌^◌, ◌-◌, map, Vec, Global, refl, subst}
-use Rattle.ledger_run.specs.Runs.{seen_ledger}
-use Rattle.ledger_run.specs.Following.{TakesAll}
-use Rattle.ledger_run.proofs.OpeningUp.{opened, no_commits}
+use Rattle.ledger_run.{specs.Runs.{seen_ledger}, specs.Following.{TakesAll}, proofs.OpeningUp.{opened, no_commits}}
 use Rattle.ledger_run.proofs.opening.read_chain.Goals as goal
 
 pub returns : goal.returns

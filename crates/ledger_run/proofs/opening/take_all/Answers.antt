@@ -1,7 +1,5 @@
 use Rattle.std.proofs.Common.{ℕ, List, map, take, sym, subst}
-use Rattle.ledger_run.specs.Runs.{seen_ledger}
-use Rattle.ledger_run.specs.Following.{TakesAll}
-use Rattle.ledger_run.proofs.OpeningUp.{takes_none, takes_more, next_text}
+use Rattle.ledger_run.{specs.Runs.{seen_ledger}, specs.Following.{TakesAll}, proofs.OpeningUp.{takes_none, takes_more, next_text}}
 use Rattle.ledger_run.proofs.opening.take_all.Goals as goal
 
 pub loop-text-init : goal.loop-text-init

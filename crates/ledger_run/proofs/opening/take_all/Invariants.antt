@@ -1,7 +1,6 @@
 -- The ledger in memory is that of the commits so far.
 use Rattle.std.proofs.Common.{map, take}
-use Rattle.ledger_run.specs.Runs.{seen_ledger}
-use Rattle.ledger_run.specs.Following.{TakesAll}
+use Rattle.ledger_run.specs.{Runs.{seen_ledger}, Following.{TakesAll}}
 use Rattle.ledger_run.proofs.opening.take_all.Given as goal
 
 abbrev pub invariant-loop-text : goal.invariant-loop-text

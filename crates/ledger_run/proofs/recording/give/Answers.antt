@@ -1,6 +1,5 @@
 use Rattle.std.proofs.Common.{refl}
-use Rattle.ledger_run.specs.Runs.{seen_ledger}
-use Rattle.ledger_run.proofs.Safety.{still_safe, still_on, safe_then, on_then}
+use Rattle.ledger_run.{specs.Runs.{seen_ledger}, proofs.Safety.{still_safe, still_on, safe_then, on_then}}
 use Rattle.ledger_run.proofs.recording.give.Goals as goal
 
 pub returns-in_default-clause-any_moment : goal.returns-in_default-clause-any_moment

@@ -1,10 +1,7 @@
 use Rattle.std.proofs.Common.{List, map, subst}
 use Rattle.ledger_disk.specs.Plans.{Did, Began}
 use Rattle.ledger_laws.specs.Answers.{deliver_calls}
-use Rattle.ledger_run.specs.declared.answers.Owed.{Owed}
-use Rattle.ledger_run.specs.Owing.{owed_as}
-use Rattle.ledger_run.specs.Runs.{seen_ledger}
-use Rattle.ledger_run.proofs.Giving.{give_safe_from, give_carries_on}
+use Rattle.ledger_run.{specs.declared.answers.Owed.{Owed}, specs.Owing.{owed_as}, specs.Runs.{seen_ledger}, proofs.Giving.{give_safe_from, give_carries_on}}
 use Rattle.ledger_run.proofs.recording.put_owed.Goals as goal
 
 pub returns-in_err-put_answers-clause-any_moment : goal.returns-in_err-put_answers-clause-any_moment

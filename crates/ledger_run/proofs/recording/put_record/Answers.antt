@@ -1,12 +1,7 @@
 use Rattle.std.proofs.Common.{◌≡◌, ℕ, List, refl, sym, ◌∙◌, subst}
-use Rattle.ledger_text.specs.Text.{commit_of}
-use Rattle.ledger_text.specs.Digests.{digest_of}
-use Rattle.ledger_text.specs.Records.{seen}
-use Rattle.ledger_run.specs.Meaning.{event_of, event_behind}
-use Rattle.ledger_run.specs.Runs.{Seen, seen_ledger, CarriesOn}
-use Rattle.ledger_run.specs.Following.{event_sent, with_commit, after_event}
-use Rattle.ledger_run.specs.Senders.{sent_in}
-use Rattle.ledger_run.proofs.Safety.{still_safe, commit_safe_from, commit_carries_on, one_commit}
+use Rattle.ledger_text.specs.{Text.{commit_of}, Digests.{digest_of}, Records.{seen}}
+use Rattle.ledger_run.specs.{Meaning.{event_of, event_behind}, Runs.{Seen, seen_ledger, CarriesOn}, Senders.{sent_in}}
+use Rattle.ledger_run.{specs.Following.{event_sent, with_commit, after_event}, proofs.Safety.{still_safe, commit_safe_from, commit_carries_on, one_commit}}
 use Rattle.ledger_run.proofs.recording.put_record.Goals as goal
 
 pub returns-in_err-event-clause-any_moment : goal.returns-in_err-event-clause-any_moment

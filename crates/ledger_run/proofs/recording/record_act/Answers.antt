@@ -1,8 +1,6 @@
 use Rattle.std.proofs.Common.{refl, sym, ◌∙◌}
 use Rattle.ledger_text.specs.Records.{seen}
-use Rattle.ledger_run.specs.Runs.{seen_ledger}
-use Rattle.ledger_run.proofs.Keeping.{untold}
-use Rattle.ledger_run.proofs.Safety.{still_safe}
+use Rattle.ledger_run.{specs.Runs.{seen_ledger}, proofs.Keeping.{untold}, proofs.Safety.{still_safe}}
 use Rattle.ledger_run.proofs.recording.record_act.Goals as goal
 
 pub returns-then-runs-clause-any_moment : goal.returns-then-runs-clause-any_moment

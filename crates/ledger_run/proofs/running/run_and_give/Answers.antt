@@ -1,5 +1,4 @@
-use Rattle.ledger_run.specs.Runs.{seen_ledger}
-use Rattle.ledger_run.proofs.Safety.{safe_then, on_then}
+use Rattle.ledger_run.{specs.Runs.{seen_ledger}, proofs.Safety.{safe_then, on_then}}
 use Rattle.ledger_run.proofs.running.run_and_give.Goals as goal
 
 pub returns-in_err-give-clause-any_moment : goal.returns-in_err-give-clause-any_moment

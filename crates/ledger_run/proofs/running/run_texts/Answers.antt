@@ -1,6 +1,5 @@
 use Rattle.std.proofs.Common.{refl}
-use Rattle.ledger_run.specs.Runs.{seen_ledger}
-use Rattle.ledger_run.proofs.Safety.{still_safe, still_on, safe_then, on_then}
+use Rattle.ledger_run.{specs.Runs.{seen_ledger}, proofs.Safety.{still_safe, still_on, safe_then, on_then}}
 use Rattle.ledger_run.proofs.running.run_texts.Goals as goal
 
 pub loop-init : goal.loop-init

@@ -1,7 +1,6 @@
 -- With the fields that are left it comes to all.
 use Rattle.std.proofs.Common.{◌≡◌, map, drop}
-use Rattle.ledger_sets.specs.Applying.{after_fields}
-use Rattle.ledger_sets.specs.Seeing.{site_of}
+use Rattle.ledger_sets.specs.{Applying.{after_fields}, Seeing.{site_of}}
 use Rattle.ledger_sets.proofs.applying.apply_fields.Given as goal
 
 abbrev pub invariant-loop-field : goal.invariant-loop-field

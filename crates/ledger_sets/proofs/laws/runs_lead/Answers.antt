@@ -1,6 +1,5 @@
 use Rattle.std.proofs.Common.{◌∙◌}
-use Rattle.ledger_sets.specs.Changes.{run_changes}
-use Rattle.ledger_sets.specs.Applying.{with_jobs}
+use Rattle.ledger_sets.specs.{Changes.{run_changes}, Applying.{with_jobs}}
 use Rattle.ledger_sets.proofs.laws.runs_lead.Goals as goal
 
 pub returns : goal.returns

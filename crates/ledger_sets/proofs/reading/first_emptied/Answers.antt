@@ -1,6 +1,5 @@
 use Rattle.std.proofs.Common.{sym, ap, ◌∙◌}
-use Rattle.std.specs.Option.{option_map}
-use Rattle.std.specs.Map.Iter.{deref_pair}
+use Rattle.std.specs.{Option.{option_map}, Map.Iter.{deref_pair}}
 use Rattle.ledger_sets.proofs.Made.{first_is}
 use Rattle.ledger_sets.proofs.reading.first_emptied.Goals as goal
 

@@ -1,7 +1,6 @@
 -- With the lines that are left it comes to all.
 use Rattle.std.proofs.Common.{◌≡◌, ◌+◌, ◌≤◌, length}
-use Rattle.std.specs.List.{fold}
-use Rattle.std.specs.Str.Lines.{lines}
+use Rattle.std.specs.{List.{fold}, Str.Lines.{lines}}
 use Rattle.mon_catalogue.specs.Progress.{step, lines_taken}
 use Rattle.ledger_sets.proofs.reading.take_lines.Given as goal
 

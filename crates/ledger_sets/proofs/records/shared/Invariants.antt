@@ -1,7 +1,6 @@
 -- All records before this place are the same.
 use Rattle.std.proofs.Common.{◌≡◌, ◌+◌, drop, nat_eq}
-use Rattle.std.specs.Cmp.Lexicographic.{pointwise}
-use Rattle.std.specs.List.{common_prefix_len}
+use Rattle.std.specs.{Cmp.Lexicographic.{pointwise}, List.{common_prefix_len}}
 use Rattle.ledger_sets.proofs.records.shared.Given as goal
 
 abbrev pub invariant-loop-index : goal.invariant-loop-index

@@ -1,9 +1,6 @@
 use Rattle.std.proofs.Common.{sym, ap, ◌∙◌}
-use Rattle.std.specs.Option.{option_map}
-use Rattle.std.specs.Map.Iter.{deref_pair}
-use Rattle.std.proofs.lemmas.Result.{on_ok_weaker}
-use Rattle.ledger_sets.specs.Writing.{texts_in}
-use Rattle.ledger_sets.proofs.Walking.{one_new, none_past}
+use Rattle.std.{specs.Option.{option_map}, specs.Map.Iter.{deref_pair}, proofs.lemmas.Result.{on_ok_weaker}}
+use Rattle.ledger_sets.{specs.Writing.{texts_in}, proofs.Walking.{one_new, none_past}}
 use Rattle.ledger_sets.proofs.sets.put_at.Goals as goal
 
 pub returns-in-Some : goal.returns-in-Some

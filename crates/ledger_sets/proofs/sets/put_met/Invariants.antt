@@ -1,7 +1,6 @@
 -- With what changes those that are left it comes to all.
 use Rattle.std.proofs.Common.{◌≡◌, ◌++◌, drop}
-use Rattle.ledger_sets.specs.Changes.{changes_between}
-use Rattle.ledger_sets.specs.Writing.{texts_in, said_texts}
+use Rattle.ledger_sets.specs.{Changes.{changes_between}, Writing.{texts_in, said_texts}}
 use Rattle.ledger_sets.proofs.sets.put_met.Given as goal
 
 abbrev pub invariant-loop-place : goal.invariant-loop-place

@@ -1,7 +1,6 @@
 -- With those that are left it comes to all.
 use Rattle.std.proofs.Common.{◌≡◌, ◌++◌, map, drop}
-use Rattle.ledger_sets.specs.Changes.{whole}
-use Rattle.ledger_sets.specs.Writing.{texts_in, said_texts}
+use Rattle.ledger_sets.specs.{Changes.{whole}, Writing.{texts_in, said_texts}}
 use Rattle.ledger_sets.proofs.sets.put_new.Given as goal
 
 abbrev pub invariant-loop-place : goal.invariant-loop-place

@@ -1,11 +1,8 @@
 use Rattle.std.proofs.Common.{sym, ap, ◌∙◌, arith}
-use Rattle.std.specs.Option.{option_map}
-use Rattle.std.specs.Map.Iter.{deref_pair}
-use Rattle.std.proofs.lemmas.Option.{slice_get_within}
-use Rattle.ledger_sets.specs.Writing.{texts_in}
-use Rattle.ledger_sets.proofs.Walking.{met_again, gone_before, gone_last}
-use Rattle.ledger_sets.proofs.sets.put_next.Goals as goal
+use Rattle.std.{specs.Option.{option_map}, specs.Map.Iter.{deref_pair}, proofs.lemmas.Option.{slice_get_within}}
+use Rattle.ledger_sets.{specs.Writing.{texts_in}, proofs.Walking.{met_again, gone_before, gone_last}}
 use Rattle.ledger_sets.proofs.sets.put_next.Goals.{in_default-at-via-in-Some-at+else-eq, in_default-at-via-in_default-at}
+use Rattle.ledger_sets.proofs.sets.put_next.Goals as goal
 
 pub overflow_add-result : goal.overflow_add-result
 overflow_add-result c =

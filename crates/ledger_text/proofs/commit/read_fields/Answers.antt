@@ -1,7 +1,6 @@
 use Rattle.std.proofs.Common.{◌≡◌, ◌+◌, ◌-◌, ◌++◌, ℕ, List, [], ◌∷◌, map, sym, ap, ◌∙◌, Bor}
 use Rattle.std.proofs.lemmas.List.{map-append}
-use Rattle.ledger_text.specs.Text.{whole, read_fields}
-use Rattle.ledger_text.proofs.Taking.{behind, next_field, no_field}
+use Rattle.ledger_text.{specs.Text.{whole, read_fields}, proofs.Taking.{behind, next_field, no_field}}
 use Rattle.ledger_text.proofs.commit.read_fields.Goals as goal
 
 abbrev seen : List (Bor (List ℕ)) → List (List ℕ)

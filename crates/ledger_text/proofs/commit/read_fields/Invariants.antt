@@ -1,7 +1,6 @@
 -- The fields so far stand before those that are left.
 use Rattle.std.proofs.Common.{◌≡◌, ◌-◌, map}
-use Rattle.ledger_text.specs.Text.{read_fields}
-use Rattle.ledger_text.proofs.Taking.{behind}
+use Rattle.ledger_text.{specs.Text.{read_fields}, proofs.Taking.{behind}}
 use Rattle.ledger_text.proofs.commit.read_fields.Given as goal
 
 abbrev pub invariant-loop : goal.invariant-loop

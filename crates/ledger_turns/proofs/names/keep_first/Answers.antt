@@ -1,6 +1,5 @@
 use Rattle.std.proofs.Common.{◌≡◌, ℕ, Vec, Global}
-use Rattle.ledger_turns.specs.Names.{place_from}
-use Rattle.ledger_turns.proofs.Sorting.{first_kept}
+use Rattle.ledger_turns.{specs.Names.{place_from}, proofs.Sorting.{first_kept}}
 use Rattle.ledger_turns.proofs.names.keep_first.Goals as goal
 
 pub returns : goal.returns

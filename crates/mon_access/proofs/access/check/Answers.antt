@@ -1,8 +1,6 @@
 use Rattle.std.proofs.Common.{rules, ◌≡◌, ◌∙◌, Bool, true, false, ap, if◌then◌else◌}
-use Rattle.mon_access.specs.declared.access.Decision.TheVariants.{Granted, Denied}
-use Rattle.mon_access.specs.declared.access.Decider.TheVariants.{UserObj as ByUserObj}
-use Rattle.mon_access.specs.Matches.{is_owner}
-use Rattle.mon_access.specs.AccessCheck.{decision}
+use Rattle.mon_access.specs.declared.access.{Decision.TheVariants.{Granted, Denied}, Decider.TheVariants.{UserObj as ByUserObj}}
+use Rattle.mon_access.specs.{Matches.{is_owner}, AccessCheck.{decision}}
 use Rattle.mon_access.proofs.access.check.Goals as goal
 
 pub returns-then-eq : goal.returns-then-eq

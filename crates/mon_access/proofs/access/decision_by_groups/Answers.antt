@@ -1,10 +1,7 @@
 use Rattle.std.proofs.Common.{◌≡◌, ◌∙◌, Bool, ap, if◌then◌else◌}
-use Rattle.mon_access.specs.declared.access.Decision.TheVariants.{Granted, Denied}
-use Rattle.mon_access.specs.declared.access.Decider.TheVariants.{Group as ByGroup, Mask as ByMask, Other as ByOther}
-use Rattle.mon_access.specs.declared.finding.Found.TheVariants.{Nobody, Lacking, Holding}
-use Rattle.mon_access.specs.Matches.{is_for_group}
-use Rattle.mon_access.specs.inner.Kinds.{found}
-use Rattle.mon_access.proofs.Outcomes.{group_holds, group_lacks, no_group}
+use Rattle.mon_access.specs.declared.{access.Decision.TheVariants.{Granted, Denied}, finding.Found.TheVariants.{Nobody, Lacking, Holding}}
+use Rattle.mon_access.specs.{declared.access.Decider.TheVariants.{Group as ByGroup, Mask as ByMask, Other as ByOther}, Matches.{is_for_group}}
+use Rattle.mon_access.{specs.inner.Kinds.{found}, proofs.Outcomes.{group_holds, group_lacks, no_group}}
 use Rattle.mon_access.proofs.access.decision_by_groups.Goals as goal
 
 pub returns-in-Holding : goal.returns-in-Holding

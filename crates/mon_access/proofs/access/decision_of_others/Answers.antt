@@ -1,9 +1,6 @@
 use Rattle.std.proofs.Common.{◌≡◌, ◌∙◌, Bool, ap, if◌then◌else◌}
-use Rattle.mon_access.specs.declared.access.Decision.TheVariants.{Granted, Denied}
-use Rattle.mon_access.specs.declared.access.Decider.TheVariants.{Mask as ByMask}
-use Rattle.mon_access.specs.declared.finding.Found.TheVariants.{Nobody, Lacking, Holding}
-use Rattle.mon_access.specs.Matches.{is_for_user}
-use Rattle.mon_access.specs.inner.Kinds.{found}
+use Rattle.mon_access.specs.declared.access.{Decision.TheVariants.{Granted, Denied}, Decider.TheVariants.{Mask as ByMask}}
+use Rattle.mon_access.specs.{declared.finding.Found.TheVariants.{Nobody, Lacking, Holding}, Matches.{is_for_user}, inner.Kinds.{found}}
 use Rattle.mon_access.proofs.Outcomes.{user_holds, user_lacks, no_user}
 use Rattle.mon_access.proofs.access.decision_of_others.Goals as goal
 

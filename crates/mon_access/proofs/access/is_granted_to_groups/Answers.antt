@@ -1,8 +1,6 @@
 use Rattle.std.proofs.Common.{◌≡◌, refl}
-use Rattle.mon_acl.specs.declared.entries.Tag.TheVariants.{Mask}
-use Rattle.mon_acl.specs.Entries.{has_tag}
-use Rattle.mon_access.specs.declared.finding.Found.TheVariants.{Nobody, Lacking, Holding}
-use Rattle.mon_access.specs.inner.Kinds.{found}
+use Rattle.mon_acl.specs.{declared.entries.Tag.TheVariants.{Mask}, Entries.{has_tag}}
+use Rattle.mon_access.specs.{declared.finding.Found.TheVariants.{Nobody, Lacking, Holding}, inner.Kinds.{found}}
 use Rattle.mon_access.proofs.Outcomes.{from_Holding, from_Lacking, from_Nobody}
 use Rattle.mon_access.proofs.access.is_granted_to_groups.Goals as goal
 

@@ -1,7 +1,5 @@
 use Rattle.std.proofs.Common.{◌≡◌, ◌∙◌, ap₂, sym}
-use Rattle.mon_access.specs.declared.finding.Found.TheVariants.{Holding}
-use Rattle.mon_access.specs.Matches.{is_for_named_group}
-use Rattle.mon_access.specs.inner.Kinds.{found, joined}
+use Rattle.mon_access.specs.{declared.finding.Found.TheVariants.{Holding}, Matches.{is_for_named_group}, inner.Kinds.{found, joined}}
 use Rattle.mon_access.proofs.Together.{owning_last, named_hold}
 use Rattle.mon_access.proofs.finding.of_groups.Goals as goal
 

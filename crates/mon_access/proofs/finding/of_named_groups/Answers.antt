@@ -1,6 +1,5 @@
 use Rattle.std.proofs.Common.{rules, ◌≡◌, ◌∙◌, ◌<◌, ℕ, List, ap, ap₂, sym, get_or, length, take, take_all, arith}
-use Rattle.mon_access.specs.declared.finding.Found.TheVariants.{Holding}
-use Rattle.mon_access.specs.inner.Kinds.{found, joined, is_so_far}
+use Rattle.mon_access.specs.{declared.finding.Found.TheVariants.{Holding}, inner.Kinds.{found, joined, is_so_far}}
 use Rattle.mon_access.proofs.Together.{all_groups, no_group, one_more, held_already}
 use Rattle.mon_access.proofs.finding.of_named_groups.Goals as goal
 

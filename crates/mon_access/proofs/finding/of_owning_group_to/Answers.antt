@@ -1,9 +1,6 @@
 use Rattle.std.proofs.Common.{rules, ◌≡◌, ◌∙◌, true, false, get_or, sym}
-use Rattle.mon_acl.specs.declared.entries.Tag.TheVariants.{GroupObj}
-use Rattle.mon_acl.specs.Entries.{has_tag}
-use Rattle.mon_access.specs.Matches.{is_in_group, is_for_owning_group}
-use Rattle.mon_access.proofs.Halves.{nobody}
-use Rattle.mon_access.proofs.Together.{alike, and_true, and_false}
+use Rattle.mon_acl.specs.{declared.entries.Tag.TheVariants.{GroupObj}, Entries.{has_tag}}
+use Rattle.mon_access.{specs.Matches.{is_in_group, is_for_owning_group}, proofs.Halves.{nobody}, proofs.Together.{alike, and_true, and_false}}
 use Rattle.mon_access.proofs.finding.of_owning_group_to.Goals as goal
 
 pub returns-then-is_in_group : goal.returns-then-is_in_group

@@ -1,8 +1,6 @@
 use Rattle.std.proofs.Common.{◌∷◌, [], ◌∙◌, get_or}
 use Rattle.mon_acl.specs.Entries.{rank, has_tag}
-use Rattle.mon_access.specs.inner.Kinds.{stands_at}
-use Rattle.mon_access.proofs.Halves.{found_at, found_nowhere}
-use Rattle.mon_access.proofs.Together.{alike, lone_kind}
+use Rattle.mon_access.{specs.inner.Kinds.{stands_at}, proofs.Halves.{found_at, found_nowhere}, proofs.Together.{alike, lone_kind}}
 use Rattle.mon_access.proofs.finding.of_type.Goals as goal
 
 pub returns-in-Some : goal.returns-in-Some

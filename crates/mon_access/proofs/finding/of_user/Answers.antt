@@ -1,9 +1,6 @@
 use Rattle.std.proofs.Common.{◌∷◌, ◌∙◌, get_or}
-use Rattle.mon_acl.specs.declared.entries.Tag.TheVariants.{User}
-use Rattle.mon_acl.specs.Entries.{rank}
-use Rattle.mon_access.specs.Matches.{is_for_user}
-use Rattle.mon_access.specs.inner.Kinds.{stands_at}
-use Rattle.mon_access.proofs.Together.{alike, user_kind}
+use Rattle.mon_acl.specs.{declared.entries.Tag.TheVariants.{User}, Entries.{rank}}
+use Rattle.mon_access.{specs.Matches.{is_for_user}, specs.inner.Kinds.{stands_at}, proofs.Together.{alike, user_kind}}
 use Rattle.mon_access.proofs.finding.of_user.Goals as goal
 
 pub returns : goal.returns

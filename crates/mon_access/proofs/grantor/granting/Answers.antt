@@ -1,9 +1,6 @@
 -- An entry is named where the check grants.
 use Rattle.std.proofs.Common.{◌≡◌, rules, sym, ap, subst, ◌∙◌}
-use Rattle.mon_access.specs.declared.access.Decision.{Decision}
-use Rattle.mon_access.specs.AccessCheck.{case_of}
-use Rattle.mon_access.specs.Granting.{holder, granting}
-use Rattle.mon_access.proofs.Naming.{if_granted}
+use Rattle.mon_access.{specs.declared.access.Decision.{Decision}, specs.AccessCheck.{case_of}, specs.Granting.{holder, granting}, proofs.Naming.{if_granted}}
 use Rattle.mon_access.proofs.grantor.granting.Goals as goal
 
 pub returns-in-Granted : goal.returns-in-Granted

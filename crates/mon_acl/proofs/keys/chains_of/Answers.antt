@@ -1,7 +1,6 @@
 use Rattle.std.proofs.Common.{rules, ◌∙◌, replicate, arith, refl, map}
 use Rattle.std.specs.Prelude.{slice_index}
-use Rattle.mon_acl.specs.inner.Keys.{bucket_of}
-use Rattle.mon_acl.proofs.Keyed.{none_linked, zeros, linked, bucket_is}
+use Rattle.mon_acl.{specs.inner.Keys.{bucket_of}, proofs.Keyed.{none_linked, zeros, linked, bucket_is}}
 use Rattle.mon_acl.proofs.keys.chains_of.Goals as goal
 
 pub loop-i-init : goal.loop-i-init

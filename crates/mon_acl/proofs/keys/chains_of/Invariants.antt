@@ -1,6 +1,5 @@
 use Rattle.std.proofs.Common.{◌≡◌, length, map}
-use Rattle.mon_acl.specs.inner.Keys.{bucket_of}
-use Rattle.mon_acl.specs.inner.Chains.{IsChained}
+use Rattle.mon_acl.specs.inner.{Keys.{bucket_of}, Chains.{IsChained}}
 use Rattle.mon_acl.proofs.keys.chains_of.Given as goal
 
 abbrev pub invariant-loop-i : goal.invariant-loop-i

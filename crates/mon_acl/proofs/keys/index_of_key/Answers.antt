@@ -1,6 +1,5 @@
 use Rattle.std.proofs.Common.{◌-◌, arith, length, map}
-use Rattle.mon_acl.specs.inner.Keys.{bucket_of}
-use Rattle.mon_acl.proofs.Keyed.{IsOtherKey, begun, gone_on, other_key}
+use Rattle.mon_acl.{specs.inner.Keys.{bucket_of}, proofs.Keyed.{IsOtherKey, begun, gone_on, other_key}}
 use Rattle.mon_acl.proofs.keys.index_of_key.Goals as goal
 
 pub loop-place-init : goal.loop-place-init

@@ -1,6 +1,5 @@
 use Rattle.std.proofs.Common.{length, map}
-use Rattle.mon_acl.specs.inner.Keys.{bucket_of}
-use Rattle.mon_acl.proofs.Keyed.{IsSearched, IsOtherKey}
+use Rattle.mon_acl.{specs.inner.Keys.{bucket_of}, proofs.Keyed.{IsSearched, IsOtherKey}}
 use Rattle.mon_acl.proofs.keys.index_of_key.Given as goal
 
 abbrev pub invariant-loop-place : goal.invariant-loop-place

@@ -1,7 +1,6 @@
 use Rattle.std.proofs.Common.{◌≡◌, ◌∙◌, ◌<◌, ◌-◌, ap, sym, arith, length, map, false}
 use Rattle.std.proofs.lemmas.List.{get_or_default}
-use Rattle.mon_acl.specs.Entries.{is_for}
-use Rattle.mon_acl.specs.inner.Keys.{bucket_of}
+use Rattle.mon_acl.specs.{Entries.{is_for}, inner.Keys.{bucket_of}}
 use Rattle.mon_acl.proofs.Keyed.{IsOther, many, few_keys, begun, gone_on, other_key, other_entry, found_none}
 use Rattle.mon_acl.proofs.keys.index_of_long.Goals as goal
 

@@ -1,6 +1,5 @@
 use Rattle.std.proofs.Common.{ℕ, List, ◌≤◌, ◌<◌, ◌+◌, ◌*◌, ◌∙◌, ap, sym, subst, length}
-use Rattle.mon_acl.specs.Entries.{rank}
-use Rattle.mon_acl.proofs.Keyed.{name_fits, few_keys, found_by_name}
+use Rattle.mon_acl.{specs.Entries.{rank}, proofs.Keyed.{name_fits, few_keys, found_by_name}}
 use Rattle.mon_acl.proofs.keys.index_of_name.Goals as goal
 
 pub key_of-key-requires : goal.key_of-key-requires

@@ -1,8 +1,6 @@
 -- The entry at the place has the name.
 use Rattle.std.proofs.Common.{rules, ◌≡◌, true, nat_eq, Some, option_map, slice_get, sym, ap, ◌∙◌}
-use Rattle.std.specs.Cmp.Lexicographic.{pointwise}
-use Rattle.std.specs.Map.{values_of}
-use Rattle.std.proofs.lemmas.Option.{slice_get-map}
+use Rattle.std.{specs.Cmp.Lexicographic.{pointwise}, specs.Map.{values_of}, proofs.lemmas.Option.{slice_get-map}}
 use Rattle.mon_text.proofs.Hints.{place_hinted}
 use Rattle.mon_catalogue.proofs.catalogue.place_near.Goals as goal
 

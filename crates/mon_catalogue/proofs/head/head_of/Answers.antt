@@ -1,11 +1,8 @@
 -- Where there are not so many words there is no `$SET` line.
 use Rattle.std.proofs.Common.{◌≡◌, ℕ, List, None, map, sym, subst, arith}
-use Rattle.std.specs.Borrow.{Bor}
-use Rattle.std.proofs.lemmas.List.{length-map}
+use Rattle.std.{specs.Borrow.{Bor}, proofs.lemmas.List.{length-map}}
 use borrow.Author.Tests.{ltb-true, ltb-false}
-use Rattle.mon_catalogue.specs.declared.version.Version.{Version}
-use Rattle.mon_catalogue.specs.Head.{head_of}
-use Rattle.mon_catalogue.proofs.Heads.{one_of_others, two_of_others}
+use Rattle.mon_catalogue.{specs.declared.version.Version.{Version}, specs.Head.{head_of}, proofs.Heads.{one_of_others, two_of_others}}
 use Rattle.mon_catalogue.proofs.head.head_of.Goals as goal
 use Rattle.mon_catalogue.proofs.head.head_of.Goals.{in_default-via-then-words-lt5, in_default-via-else-words-lt5+else-words-lt6, in_default-words-via-then-words-lt6-2, in_default-words-via-else-words-lt6-2+else-words-lt7}
 

@@ -1,7 +1,6 @@
 use Rattle.std.proofs.Common.{◌∙◌, ap, sym}
 use Rattle.mon_device.proofs.Putting.{puts_same, puts_then}
-use Rattle.mon_command.specs.Replies.{reason_text}
-use Rattle.mon_command.proofs.Words.{by_head}
+use Rattle.mon_command.{specs.Replies.{reason_text}, proofs.Words.{by_head}}
 use Rattle.mon_command.proofs.reply.print_reason.Goals as goal
 
 pub returns-in-By : goal.returns-in-By

@@ -1,6 +1,5 @@
 use Rattle.std.proofs.Common.{◌≡◌, ◌∙◌, ◌+◌, ◌∷◌, ◌++◌, [], List, ℕ, ap, sym, take, decimal, slice_set, arith}
-use Rattle.std.proofs.lemmas.Fmt.{decimal_digit}
-use Rattle.std.proofs.lemmas.Grind.{common_steps}
+use Rattle.std.proofs.lemmas.{Fmt.{decimal_digit}, Grind.{common_steps}}
 use Rattle.mon_command.proofs.room.place_digit.Goals as goal
 
 pub returns-clause-placed : goal.returns-clause-placed

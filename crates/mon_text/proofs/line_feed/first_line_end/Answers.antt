@@ -1,6 +1,5 @@
-use Rattle.mon_text.proofs.Searching.{found}
+use Rattle.mon_text.{proofs.Searching.{found}, specs.Characters.{is_line_feed}}
 use Rattle.mon_text.proofs.line_feed.first_line_end.Goals as goal
-use Rattle.mon_text.specs.Characters.{is_line_feed}
 
 pub returns-clause-place : goal.returns-clause-place
 returns-clause-place c = found is_line_feed c.args.piece.now c.memchr.result c.memchr.ensures

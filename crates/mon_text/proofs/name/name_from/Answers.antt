@@ -1,7 +1,6 @@
 use Rattle.std.proofs.Common.{rules, ◌∙◌, sym, subst, refl, length, ◌≤◌, ◌<◌, arith}
 use Rattle.std.specs.Prelude.{slice_index_or}
-use Rattle.mon_text.specs.Names.{IsName}
-use Rattle.mon_text.proofs.Leading.{letter_alone, first_long, first_zeros, name_on, same_on, zeros_left}
+use Rattle.mon_text.{specs.Names.{IsName}, proofs.Leading.{letter_alone, first_long, first_zeros, name_on, same_on, zeros_left}}
 use Rattle.mon_text.proofs.name.name_from.Goals as goal
 
 pub loop-length-init : goal.loop-length-init

@@ -1,6 +1,5 @@
 use Rattle.std.proofs.Common.{◌≡◌, ◌-◌, ◌≤◌, length, take}
-use Rattle.mon_text.specs.Names.{IsName}
-use Rattle.mon_text.specs.inner.Padding.{IsZeroFrom}
+use Rattle.mon_text.specs.{Names.{IsName}, inner.Padding.{IsZeroFrom}}
 use Rattle.mon_text.proofs.name.name_from.Given as goal
 
 abbrev pub invariant-loop-length : goal.invariant-loop-length

@@ -1,6 +1,5 @@
 use Rattle.std.proofs.Common.{rules, ◌≡◌, ◌∙◌, sym, subst, refl, length, take_at}
-use Rattle.mon_text.specs.Names.{IsName}
-use Rattle.mon_text.proofs.Padding.{short, zeros_behind}
+use Rattle.mon_text.{specs.Names.{IsName}, proofs.Padding.{short, zeros_behind}}
 use Rattle.mon_text.proofs.name.read_name.Goals as goal
 
 pub invariant_of-result : goal.invariant_of-result

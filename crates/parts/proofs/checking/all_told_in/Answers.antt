@@ -1,8 +1,6 @@
 use Rattle.std.proofs.Common.{ℕ, List, ap, ◌∙◌}
-use Rattle.std.specs.Prelude.{◌==◌}
-use Rattle.std.specs.List.{list_all}
-use Rattle.parts.specs.Told.{Told}
-use Rattle.parts.proofs.Telling.{values_in}
+use Rattle.std.specs.{Prelude.{◌==◌}, List.{list_all}}
+use Rattle.parts.{specs.Told.{Told}, proofs.Telling.{values_in}}
 use Rattle.parts.proofs.checking.all_told_in.Goals as goal
 
 pub returns : goal.returns

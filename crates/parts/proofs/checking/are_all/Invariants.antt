@@ -1,6 +1,5 @@
 use Rattle.std.proofs.Common.{◌≡◌, take}
-use Rattle.std.specs.List.{list_all}
-use Rattle.std.specs.Prelude.{◌==◌}
+use Rattle.std.specs.{List.{list_all}, Prelude.{◌==◌}}
 use Rattle.parts.proofs.checking.are_all.Given as goal
 
 abbrev pub invariant-loop-own : goal.invariant-loop-own

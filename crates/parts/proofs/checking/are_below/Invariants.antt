@@ -1,6 +1,5 @@
 use Rattle.std.proofs.Common.{◌≡◌, take}
-use Rattle.std.specs.List.{list_all}
-use Rattle.std.specs.Prelude.{nat_lt}
+use Rattle.std.specs.{List.{list_all}, Prelude.{nat_lt}}
 use Rattle.parts.proofs.checking.are_below.Given as goal
 
 abbrev pub invariant-loop-part : goal.invariant-loop-part

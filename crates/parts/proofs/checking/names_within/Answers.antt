@@ -1,8 +1,6 @@
 use Rattle.std.proofs.Common.{ℕ, List, ap, ◌∙◌}
-use Rattle.std.specs.Prelude.{nat_lt}
-use Rattle.std.specs.List.{list_all}
-use Rattle.parts.specs.Told.{Told}
-use Rattle.parts.proofs.Telling.{values_below}
+use Rattle.std.specs.{Prelude.{nat_lt}, List.{list_all}}
+use Rattle.parts.{specs.Told.{Told}, proofs.Telling.{values_below}}
 use Rattle.parts.proofs.checking.names_within.Goals as goal
 
 pub returns : goal.returns

@@ -1,8 +1,6 @@
 use Rattle.std.proofs.Common.{◌++◌, List, ℕ, ap, ◌∙◌}
 use Rattle.std.specs.List.{flat_map}
-use Rattle.parts.specs.Splits.{goes}
-use Rattle.parts.specs.inner.Picks.{printout_of}
-use Rattle.parts.proofs.PickedBytes.{texts_are}
+use Rattle.parts.{specs.Splits.{goes}, specs.inner.Picks.{printout_of}, proofs.PickedBytes.{texts_are}}
 use Rattle.parts.proofs.joining.join_audits.Goals as goal
 
 pub returns : goal.returns

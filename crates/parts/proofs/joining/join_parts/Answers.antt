@@ -1,5 +1,4 @@
-use Rattle.parts.specs.Splits.{goes}
-use Rattle.parts.proofs.PickedBytes.{texts_are, sets_are, one_behind_another}
+use Rattle.parts.{specs.Splits.{goes}, proofs.PickedBytes.{texts_are, sets_are, one_behind_another}}
 use Rattle.parts.proofs.joining.join_parts.Goals as goal
 
 pub returns : goal.returns

@@ -1,7 +1,6 @@
 use Rattle.std.proofs.Common.{◌≡◌, ◌++◌, take}
 use Rattle.std.specs.List.{flat_map}
-use Rattle.parts.specs.Splits.{goes}
-use Rattle.parts.specs.inner.Picks.{printout_of}
+use Rattle.parts.specs.{Splits.{goes}, inner.Picks.{printout_of}}
 use Rattle.parts.proofs.joining.put_printouts.Given as goal
 
 abbrev pub invariant-loop-number : goal.invariant-loop-number

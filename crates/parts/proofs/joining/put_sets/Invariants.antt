@@ -1,7 +1,6 @@
 use Rattle.std.proofs.Common.{◌≡◌, ◌++◌, take}
 use Rattle.std.specs.List.{flat_map}
-use Rattle.parts.specs.Splits.{goes}
-use Rattle.parts.specs.inner.Picks.{set_of}
+use Rattle.parts.specs.{Splits.{goes}, inner.Picks.{set_of}}
 use Rattle.parts.proofs.joining.put_sets.Given as goal
 
 abbrev pub invariant-loop-name : goal.invariant-loop-name

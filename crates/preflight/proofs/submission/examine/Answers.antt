@@ -1,9 +1,6 @@
 use Rattle.std.proofs.Common.{◌≡◌, ℕ, length, ap, ◌∙◌}
-use Rattle.std.specs.Str.Lines.{lines}
-use Rattle.std.proofs.lemmas.Result.{err_from_is_err_and}
-use Rattle.preflight.specs.declared.tally.Tally.{Tally}
-use Rattle.preflight.proofs.FirstWrong.{wrong_answer}
-use Rattle.preflight.proofs.Kept.{kept_lines, is_kept}
+use Rattle.std.{specs.Str.Lines.{lines}, proofs.lemmas.Result.{err_from_is_err_and}}
+use Rattle.preflight.{specs.declared.tally.Tally.{Tally}, proofs.FirstWrong.{wrong_answer}, proofs.Kept.{kept_lines, is_kept}}
 use Rattle.preflight.proofs.submission.examine.Goals as goal
 
 pub returns-in_err-counted-clause-refused : goal.returns-in_err-counted-clause-refused

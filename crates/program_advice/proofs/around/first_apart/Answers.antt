@@ -1,9 +1,7 @@
 -- The first that the closure finds.
 use Rattle.std.proofs.Common.{rules, tests, ap, sym, ◌∙◌}
-use Rattle.std.proofs.lemmas.Iterator.{YieldsList-from_slice}
-use Rattle.std.proofs.lemmas.Iterator.Search.{find_from_yields_List}
-use Rattle.program_advice.specs.Causes.{is_apart, or_end}
-use Rattle.program_advice.proofs.Copied.{map_copies}
+use Rattle.std.proofs.lemmas.Iterator.{YieldsList-from_slice, Search.{find_from_yields_List}}
+use Rattle.program_advice.{specs.Causes.{is_apart, or_end}, proofs.Copied.{map_copies}}
 use Rattle.program_advice.proofs.around.first_apart.Goals as goal
 
 pub returns : goal.returns

@@ -1,7 +1,6 @@
 -- The chain goes over the text from its end.
 use Rattle.std.proofs.Common.{rules, tests, ap}
-use Rattle.std.proofs.lemmas.Iterator.Adapters.{YieldsList-from_rev_slice}
-use Rattle.std.proofs.lemmas.Iterator.Consumers.{fold_from_yields_List}
+use Rattle.std.proofs.lemmas.Iterator.{Adapters.{YieldsList-from_rev_slice}, Consumers.{fold_from_yields_List}}
 use Rattle.program_advice.specs.Brackets.{back_over}
 use Rattle.program_advice.proofs.brackets.open_behind.Goals as goal
 

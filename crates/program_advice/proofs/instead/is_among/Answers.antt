@@ -1,8 +1,6 @@
 -- The chain cuts the row at its blanks, and looks at the pieces.
 use Rattle.std.proofs.Common.{rules, tests}
-use Rattle.std.specs.Prelude.{bytes_eq}
-use Rattle.std.proofs.lemmas.Iterator.Search.{any_from_yields_List}
-use Rattle.std.proofs.lemmas.Iterator.Splits.{YieldsList-from_slice_split}
+use Rattle.std.{specs.Prelude.{bytes_eq}, proofs.lemmas.Iterator.Search.{any_from_yields_List}, proofs.lemmas.Iterator.Splits.{YieldsList-from_slice_split}}
 use Rattle.mon_text.specs.Characters.{is_blank}
 use Rattle.program_advice.proofs.instead.is_among.Goals as goal
 

@@ -1,8 +1,7 @@
 use Rattle.std.proofs.Common.{◌≡◌, ◌+◌, ◌∷◌, ◌++◌, ◌∙◌, drop, sym, ap, append-nil}
 use Rattle.std.proofs.lemmas.List.{drop_more, drop_all}
 use Rattle.sno_syntax.specs.Refusals.{label_of, with_label, labels_from}
-use Rattle.program_listing.specs.Refused.{statements_refused}
-use Rattle.program_listing.proofs.Gathering.{found_more, labels_more}
+use Rattle.program_listing.{specs.Refused.{statements_refused}, proofs.Gathering.{found_more, labels_more}}
 use Rattle.program_listing.proofs.program.put_statements.Goals as goal
 
 pub loop-index-preserved : goal.loop-index-preserved

@@ -1,7 +1,6 @@
 use Rattle.std.proofs.Common.{List, subst, sym}
 use Rattle.parts.specs.declared.text.Text.{Text}
-use Rattle.round_cut.specs.Cuts.{AreReadFrom}
-use Rattle.round_cut.proofs.Reading.{of_its_own}
+use Rattle.round_cut.{specs.Cuts.{AreReadFrom}, proofs.Reading.{of_its_own}}
 use Rattle.round_cut.proofs.cutting.packed.Goals as goal
 
 pub returns-clause-own : goal.returns-clause-own

@@ -2,8 +2,7 @@ use Rattle.std.proofs.Common.{ap, ◌∙◌, ◌+◌, take, inr, ℕ, List}
 use Rattle.std.specs.List.{sum_by}
 use Rattle.preflight.specs.Allowances.{told64}
 use Rattle.site_plan.specs.declared.plan.Entry.{Entry}
-use Rattle.rounds.specs.Late.{deck_bytes}
-use Rattle.rounds.proofs.Damage.{on_err, deck_ends}
+use Rattle.rounds.{specs.Late.{deck_bytes}, proofs.Damage.{on_err, deck_ends}}
 use Rattle.rounds.proofs.late.place_in_deck.Goals as goal
 
 pub returns-clause-damaged : goal.returns-clause-damaged

@@ -1,8 +1,6 @@
 use Rattle.std.proofs.Common.{ap, ◌∙◌, ◌≡◌, ◌<◌, take, length, subst, inr, Err}
-use Rattle.std.proofs.lemmas.Result.{err_from_is_err_and}
-use Rattle.std.specs.List.{sum_by, insert, insert_slice, remove}
-use Rattle.rounds.specs.Late.{reply_bytes, place_among, told_before}
-use Rattle.rounds.proofs.Damage.{if_err, or}
+use Rattle.std.{proofs.lemmas.Result.{err_from_is_err_and}, specs.List.{sum_by, insert, insert_slice, remove}}
+use Rattle.rounds.{specs.Late.{reply_bytes, place_among, told_before}, proofs.Damage.{if_err, or}}
 use Rattle.rounds.proofs.late.with_late.Goals as goal
 
 pub returns-clause-put_among : goal.returns-clause-put_among

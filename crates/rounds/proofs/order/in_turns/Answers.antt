@@ -1,10 +1,7 @@
 use Rattle.std.proofs.Common.{◌≡◌, ◌++◌, List, map, take, drop, flat_map, ap, ◌∙◌, arith}
-use Rattle.std.specs.declared.alloc.Global.{Global}
-use Rattle.std.specs.declared.collections.VecDeque.{VecDeque}
-use Rattle.std.specs.Vec.{with_items}
+use Rattle.std.specs.{declared.alloc.Global.{Global}, declared.collections.VecDeque.{VecDeque}, Vec.{with_items}}
 use Rattle.std.proofs.lemmas.List.{with_items_is}
-use Rattle.rounds.specs.Order.{longest, served}
-use Rattle.rounds.proofs.Taking.{turns_begin, turn_more}
+use Rattle.rounds.{specs.Order.{longest, served}, proofs.Taking.{turns_begin, turn_more}}
 use Rattle.rounds.proofs.order.in_turns.Goals as goal
 
 pub loop-init : goal.loop-init

@@ -1,6 +1,5 @@
 use Rattle.std.proofs.Common.{arith}
-use Rattle.std.specs.declared.alloc.Global.{Global}
-use Rattle.std.specs.declared.collections.VecDeque.{VecDeque}
+use Rattle.std.specs.declared.{alloc.Global.{Global}, collections.VecDeque.{VecDeque}}
 use Rattle.rounds.proofs.Taking.{turn_order, turn_left}
 use Rattle.rounds.proofs.order.take_turn.Goals as goal
 

@@ -1,8 +1,7 @@
 use Rattle.std.proofs.Common.{List, ◌++◌, flat_map, ap, ◌∙◌}
 use Rattle.site_folder.specs.Parts.{act_line}
 use Rattle.site_plan.specs.declared.taken.Taken.{Taken}
-use Rattle.rounds.specs.Handing.{output_acts, removal_of}
-use Rattle.rounds.proofs.Handed.{put_together}
+use Rattle.rounds.{specs.Handing.{output_acts, removal_of}, proofs.Handed.{put_together}}
 use Rattle.rounds.proofs.parts.parts_text.Goals as goal
 
 pub returns : goal.returns

@@ -1,6 +1,5 @@
 use Rattle.std.proofs.Common.{◌-◌, ◌++◌, drop, ap, ◌∙◌, inl, inr, arith}
-use Rattle.std.specs.Prelude.{codes}
-use Rattle.std.proofs.lemmas.List.{drop_all}
+use Rattle.std.{specs.Prelude.{codes}, proofs.lemmas.List.{drop_all}}
 use Rattle.site_folder.specs.Parts.{Puts, act_line}
 use Rattle.rounds.proofs.Handed.{on_ok, all_printed}
 use Rattle.rounds.proofs.parts.put_output.Goals as goal

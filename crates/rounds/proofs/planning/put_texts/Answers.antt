@@ -1,7 +1,6 @@
 use Rattle.std.proofs.Common.{◌++◌, List, ℕ, take, sym, ap, ◌∙◌, flat_map, arith}
 use Rattle.std.proofs.lemmas.List.{take_all}
-use Rattle.rounds.specs.Compositions.{with_fence}
-use Rattle.rounds.proofs.Mapping.{flat_of_map}
+use Rattle.rounds.{specs.Compositions.{with_fence}, proofs.Mapping.{flat_of_map}}
 use Rattle.rounds.proofs.planning.put_texts.Goals as goal
 
 pub returns : goal.returns

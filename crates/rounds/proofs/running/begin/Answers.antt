@@ -2,9 +2,7 @@ use Rattle.std.proofs.Common.{◌≡◌, ◌++◌, ℕ, List, [], subst, arith}
 use Rattle.std.proofs.lemmas.Result.{err_from_is_err_and}
 use Rattle.deck_syntax.specs.Decks.{Refused}
 use Rattle.deck_run.specs.Runs.{deck_ending}
-use Rattle.rounds.specs.Serving.{Stands, StopsWithin}
-use Rattle.rounds.proofs.Stopping.{stops_within, stops_at_once}
-use Rattle.rounds.proofs.Standing.{head_stands, refused_there, passed_up}
+use Rattle.rounds.{specs.Serving.{Stands, StopsWithin}, proofs.Stopping.{stops_within, stops_at_once}, proofs.Standing.{head_stands, refused_there, passed_up}}
 use Rattle.rounds.proofs.running.begin.Goals as goal
 
 pub serve-requires : goal.serve-requires

@@ -1,7 +1,5 @@
-use Rattle.std.specs.Prelude.{codes}
-use Rattle.std.proofs.lemmas.Result.{err_from_is_err_and}
-use Rattle.rounds.proofs.Standing.{ends_so, refused_by_stop, refused_at_end, passed_up}
-use Rattle.rounds.proofs.Stopping.{stops_within, stops_behind}
+use Rattle.std.{specs.Prelude.{codes}, proofs.lemmas.Result.{err_from_is_err_and}}
+use Rattle.rounds.proofs.{Standing.{ends_so, refused_by_stop, refused_at_end, passed_up}, Stopping.{stops_within, stops_behind}}
 use Rattle.rounds.proofs.running.end.Goals as goal
 
 pub returns-in_err-serve-clause-refused : goal.returns-in_err-serve-clause-refused

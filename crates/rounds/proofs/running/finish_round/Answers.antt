@@ -1,6 +1,5 @@
 use Rattle.std.proofs.lemmas.Result.{err_from_is_err_and}
-use Rattle.rounds.proofs.Standing.{finishes, bad_at_end, passed_up}
-use Rattle.rounds.proofs.Stopping.{ending_of}
+use Rattle.rounds.proofs.{Standing.{finishes, bad_at_end, passed_up}, Stopping.{ending_of}}
 use Rattle.rounds.proofs.running.finish_round.Goals as goal
 
 pub returns-in_err-finish-clause-refused : goal.returns-in_err-finish-clause-refused

@@ -1,7 +1,6 @@
 use Rattle.std.proofs.Common.{◌≡◌, ◌∙◌, sym}
 use Rattle.deck_syntax.specs.Decks.{Ending, Stopped, Refused}
-use Rattle.rounds.proofs.GoingOn.{good_ends}
-use Rattle.rounds.proofs.Standing.{is_served}
+use Rattle.rounds.proofs.{GoingOn.{good_ends}, Standing.{is_served}}
 use Rattle.rounds.proofs.running.run_round.Goals as goal
 
 pub returns-in-Ok-clause-served : goal.returns-in-Ok-clause-served

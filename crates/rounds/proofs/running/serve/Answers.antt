@@ -1,7 +1,6 @@
 use Rattle.std.proofs.Common.{ℕ, List, [], ◌++◌, sym, subst}
 use Rattle.deck_driver.specs.Abstraction.{Took}
-use Rattle.rounds.proofs.Served.{took_behind, took_flushed}
-use Rattle.rounds.proofs.Stopping.{telling_of, telling_flushed}
+use Rattle.rounds.proofs.{Served.{took_behind, took_flushed}, Stopping.{telling_of, telling_flushed}}
 use Rattle.rounds.proofs.running.serve.Goals as goal
 
 pub returns-in-Ok-clause-told : goal.returns-in-Ok-clause-told

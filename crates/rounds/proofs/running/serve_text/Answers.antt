@@ -1,12 +1,8 @@
 use Rattle.std.proofs.Common.{◌++◌, [], ◌∷◌, List, ℕ, Err, length, refl, sym, ap, subst, ap₂, ◌∙◌, arith, length-append}
-use Rattle.std.specs.Prelude.{codes}
-use Rattle.std.proofs.lemmas.Result.{err_from_is_err_and}
+use Rattle.std.{specs.Prelude.{codes}, proofs.lemmas.Result.{err_from_is_err_and}}
 use Rattle.deck_driver.specs.Abstraction.{Took}
-use Rattle.rounds.specs.Compositions.{fence}
-use Rattle.rounds.specs.Serving.{IsBad, BeginsTelling}
-use Rattle.rounds.proofs.Served.{took_both, bad_first, bad_then}
-use Rattle.rounds.proofs.Standing.{goes_further}
-use Rattle.rounds.proofs.Stopping.{telling_first, telling_then}
+use Rattle.rounds.specs.{Compositions.{fence}, Serving.{IsBad, BeginsTelling}}
+use Rattle.rounds.proofs.{Served.{took_both, bad_first, bad_then}, Standing.{goes_further}, Stopping.{telling_first, telling_then}}
 use Rattle.rounds.proofs.running.serve_text.Goals as goal
 
 pub returns-in_err-serve-clause-refused : goal.returns-in_err-serve-clause-refused

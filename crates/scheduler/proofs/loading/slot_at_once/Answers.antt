@@ -1,6 +1,5 @@
 use Rattle.std.proofs.Common.{None, ap, ◌∙◌}
-use Rattle.scheduler.proofs.Common.{IfOk-weaker, IfErr-weaker, on_ok_weaker, statements_of, program_in, slot_by}
-use Rattle.scheduler.proofs.Loads.{deck_refused_by, stop_refused_by}
+use Rattle.scheduler.proofs.{Common.{IfOk-weaker, IfErr-weaker, on_ok_weaker, statements_of, program_in, slot_by}, Loads.{deck_refused_by, stop_refused_by}}
 use Rattle.scheduler.proofs.loading.slot_at_once.Goals as goal
 
 pub returns-in-Ok-clause-slot : goal.returns-in-Ok-clause-slot

@@ -1,6 +1,5 @@
 use Rattle.std.proofs.Common.{rules, ◌≡◌, Some}
-use Rattle.scheduler.proofs.Common.{statements_of, program_of, first_job, job_of}
-use Rattle.scheduler.proofs.Loads.{slot_made, spelled_clean}
+use Rattle.scheduler.proofs.{Common.{statements_of, program_of, first_job, job_of}, Loads.{slot_made, spelled_clean}}
 use Rattle.scheduler.proofs.loading.slot_of_account.Goals as goal
 
 pub returns-clause-slot : goal.returns-clause-slot

@@ -1,7 +1,5 @@
 use Rattle.std.proofs.Common.{sym, ◌∙◌}
-use Rattle.scheduler.proofs.Common.{statements_of}
-use Rattle.scheduler.proofs.Carding.{stops_at, none_stops}
-use Rattle.scheduler.proofs.Shorthand.{data_of}
+use Rattle.scheduler.proofs.{Common.{statements_of}, Carding.{stops_at, none_stops}, Shorthand.{data_of}}
 use Rattle.scheduler.proofs.loading.ties_refused.Goals as goal
 
 pub returns-in-Some : goal.returns-in-Some

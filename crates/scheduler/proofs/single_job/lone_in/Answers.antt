@@ -1,6 +1,5 @@
 use Rattle.std.proofs.Common.{rules, ◌≡◌, ◌+◌, true, List, Option, Some, sym, ◌∙◌, subst, position, is_some, is_none}
-use Rattle.scheduler.proofs.Common.{take_rest, list_all, Slot}
-use Rattle.scheduler.proofs.Alone.{lone_at}
+use Rattle.scheduler.proofs.{Common.{take_rest, list_all, Slot}, Alone.{lone_at}}
 use Rattle.scheduler.proofs.single_job.lone_in.Goals as goal
 
 pub returns-then-are_empty-clause-lone : goal.returns-then-are_empty-clause-lone

@@ -1,8 +1,7 @@
 -- What was asked was served, and its lines were put; and what was lent is given back.
 use Rattle.std.proofs.Common.{ℕ, rules, refl}
-use Rattle.scheduler.proofs.Common.{Standing, job_of, UnitService, same_loans, AuditedService}
+use Rattle.scheduler.proofs.{Common.{Standing, job_of, UnitService, same_loans, AuditedService}, Calls.{turn_done}}
 use Rattle.scheduler.proofs.Audited.{units_answer, lines_put, lines_cut, stays, done_as, still_kept}
-use Rattle.scheduler.proofs.Calls.{turn_done}
 use Rattle.scheduler.proofs.slot.audited_turn.Goals as goal
 
 pub returns-clause-turn : goal.returns-clause-turn

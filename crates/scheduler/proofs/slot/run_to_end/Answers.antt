@@ -1,7 +1,5 @@
-use Rattle.scheduler.proofs.Alone.{goes_begins, goes_more, goes_to_end, goes_less}
+use Rattle.scheduler.proofs.{Alone.{goes_begins, goes_more, goes_to_end, goes_less}, Common.{slot_of}, Shorthand.{then_loans}}
 use Rattle.std.proofs.Common.{refl}
-use Rattle.scheduler.proofs.Common.{slot_of}
-use Rattle.scheduler.proofs.Shorthand.{then_loans}
 use Rattle.scheduler.proofs.slot.run_to_end.Goals as goal
 
 pub turns-init : goal.turns-init

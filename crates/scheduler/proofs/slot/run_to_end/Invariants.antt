@@ -1,6 +1,5 @@
 use Rattle.std.proofs.Common.{◌≡◌, Some}
-use Rattle.scheduler.proofs.Common.{KeptFits, slot_of, reached, GoesOn, SameLoans}
-use Rattle.scheduler.proofs.Shorthand.{turns_ahead}
+use Rattle.scheduler.proofs.{Common.{KeptFits, slot_of, reached, GoesOn, SameLoans}, Shorthand.{turns_ahead}}
 use Rattle.scheduler.proofs.slot.run_to_end.Given as goal
 
 abbrev pub invariant-turns : goal.invariant-turns

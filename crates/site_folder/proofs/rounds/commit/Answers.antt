@@ -1,8 +1,6 @@
 use Rattle.std.proofs.Common.{◌≡◌, rules, true, None, ◌∙◌, sym}
-use Rattle.site_folder.specs.Rounds.{output_name, IsCommitting}
-use Rattle.site_folder.specs.inner.Found.{IsStaging}
-use Rattle.site_folder.proofs.Going.{leaves_less}
-use Rattle.site_folder.proofs.Committing.{staging_commits, not_there}
+use Rattle.site_folder.specs.{Rounds.{output_name, IsCommitting}, inner.Found.{IsStaging}}
+use Rattle.site_folder.proofs.{Going.{leaves_less}, Committing.{staging_commits, not_there}}
 use Rattle.site_folder.proofs.rounds.commit.Goals as goal
 
 pub returns-in_err-commit_named-clause-any_moment : goal.returns-in_err-commit_named-clause-any_moment

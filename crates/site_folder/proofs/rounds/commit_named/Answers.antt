@@ -1,10 +1,6 @@
 use Rattle.std.proofs.Common.{ℕ, List, ◌∷◌, [], inl, sym, subst}
-use Rattle.site_folder.specs.Files.{put_of, with_all, AreSomeGiven}
-use Rattle.site_folder.specs.Crashes.{Only, GoesBy}
-use Rattle.site_folder.specs.inner.Found.{named, IsStaging}
-use Rattle.site_folder.proofs.Going.{started, leaves_on}
-use Rattle.site_folder.proofs.Giving.{none_given}
-use Rattle.site_folder.proofs.Committing.{output_staged}
+use Rattle.site_folder.specs.{Files.{put_of, with_all, AreSomeGiven}, Crashes.{Only, GoesBy}, inner.Found.{named, IsStaging}}
+use Rattle.site_folder.proofs.{Going.{started, leaves_on}, Giving.{none_given}, Committing.{output_staged}}
 use Rattle.site_folder.proofs.rounds.commit_named.Goals as goal
 
 pub returns-in_err-stage-clause-any_moment : goal.returns-in_err-stage-clause-any_moment

@@ -1,8 +1,6 @@
 use Rattle.std.proofs.Common.{◌≡◌, inl, inr, true, None, sym, subst, rules}
-use Rattle.site_folder.specs.Files.{Files}
-use Rattle.site_folder.specs.Rounds.{done_name, output_name, owed, owed_by, IsCommitting, IsSettling, IsDelivering}
-use Rattle.site_folder.proofs.Going.{leaves_both}
-use Rattle.site_folder.proofs.Committing.{committed_owes, stood_not}
+use Rattle.site_folder.specs.{Files.{Files}, Rounds.{done_name, output_name, owed, owed_by, IsCommitting, IsSettling, IsDelivering}}
+use Rattle.site_folder.proofs.{Going.{leaves_both}, Committing.{committed_owes, stood_not}}
 use Rattle.site_folder.proofs.rounds.deliver.Goals as goal
 
 pub settle_known-requires-clause-known : goal.settle_known-requires-clause-known

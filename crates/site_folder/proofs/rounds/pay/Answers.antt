@@ -1,10 +1,6 @@
 use Rattle.std.proofs.Common.{◌∷◌, ◌++◌, [], inl, inr, map, Some, sym, ap, ◌∙◌, subst}
-use Rattle.site_folder.specs.Files.{put_of, with_all, AreSomeGiven}
-use Rattle.site_folder.specs.Crashes.{Only}
-use Rattle.site_folder.specs.Parts.{seen_act, puts_of, removals_of}
-use Rattle.site_folder.specs.Rounds.{owed_of, IsPaying}
-use Rattle.site_folder.proofs.Going.{started, leaves_on}
-use Rattle.site_folder.proofs.Giving.{none_given}
+use Rattle.site_folder.specs.{Files.{put_of, with_all, AreSomeGiven}, Crashes.{Only}, Parts.{seen_act, puts_of, removals_of}, Rounds.{owed_of, IsPaying}}
+use Rattle.site_folder.proofs.{Going.{started, leaves_on}, Giving.{none_given}}
 use Rattle.site_folder.proofs.rounds.pay.Goals as goal
 
 pub returns-clause-any_moment : goal.returns-clause-any_moment

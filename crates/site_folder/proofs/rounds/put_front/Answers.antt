@@ -1,7 +1,5 @@
 use Rattle.std.proofs.Common.{List, ℕ, ◌∷◌, [], subst, arith}
-use Rattle.site_folder.specs.Files.{put_of, AreSomeGiven}
-use Rattle.site_folder.specs.Crashes.{GoesBy}
-use Rattle.site_folder.proofs.Pieces.{across}
+use Rattle.site_folder.{specs.Files.{put_of, AreSomeGiven}, specs.Crashes.{GoesBy}, proofs.Pieces.{across}}
 use Rattle.site_folder.proofs.rounds.put_front.Goals as goal
 
 pub returns-in_err-put_joined-clause-crash : goal.returns-in_err-put_joined-clause-crash

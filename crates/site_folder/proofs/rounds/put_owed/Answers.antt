@@ -1,7 +1,5 @@
 use Rattle.std.proofs.Common.{◌++◌, refl}
-use Rattle.site_folder.proofs.Going.{goes_on}
-use Rattle.site_folder.proofs.Giving.{both_given}
-use Rattle.site_folder.proofs.Acting.{room_behind, put_within, puts_within, puts_on}
+use Rattle.site_folder.proofs.{Going.{goes_on}, Giving.{both_given}, Acting.{room_behind, put_within, puts_within, puts_on}}
 use Rattle.site_folder.proofs.rounds.put_owed.Goals as goal
 
 pub returns-in_err-left-clause-crash : goal.returns-in_err-left-clause-crash

@@ -1,9 +1,6 @@
 -- What the acts that are left put, of the bytes that are left, comes to what all of them put of all the bytes.
 use Rattle.std.proofs.Common.{◌≡◌, ◌≤◌, map, drop, length, ◌++◌}
-use Rattle.site_folder.specs.Files.{with_all, AreSomeGiven}
-use Rattle.site_folder.specs.Crashes.{GoesBy}
-use Rattle.site_folder.specs.Parts.{seen_act, total, puts_of}
-use Rattle.site_folder.proofs.Giving.{Within}
+use Rattle.site_folder.{specs.Files.{with_all, AreSomeGiven}, specs.Crashes.{GoesBy}, specs.Parts.{seen_act, total, puts_of}, proofs.Giving.{Within}}
 use Rattle.site_folder.proofs.rounds.put_owed.Given as goal
 
 abbrev pub invariant-loop-act : goal.invariant-loop-act

@@ -1,6 +1,4 @@
-use Rattle.site_folder.proofs.Going.{goes_on}
-use Rattle.site_folder.proofs.Giving.{both_given}
-use Rattle.site_folder.proofs.Acting.{any_act, removal_within, removals_within, removals_on}
+use Rattle.site_folder.proofs.{Going.{goes_on}, Giving.{both_given}, Acting.{any_act, removal_within, removals_within, removals_on}}
 use Rattle.site_folder.proofs.rounds.remove_taken.Goals as goal
 
 pub returns-in_err-remove_act-clause-crash : goal.returns-in_err-remove_act-clause-crash

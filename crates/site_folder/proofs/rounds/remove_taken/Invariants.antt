@@ -1,9 +1,6 @@
 -- What the acts that are left remove comes to what all of them remove.
 use Rattle.std.proofs.Common.{◌≡◌, map, drop}
-use Rattle.site_folder.specs.Files.{with_all, AreSomeGiven}
-use Rattle.site_folder.specs.Crashes.{GoesBy}
-use Rattle.site_folder.specs.Parts.{seen_act, removals_of}
-use Rattle.site_folder.proofs.Giving.{Within}
+use Rattle.site_folder.{specs.Files.{with_all, AreSomeGiven}, specs.Crashes.{GoesBy}, specs.Parts.{seen_act, removals_of}, proofs.Giving.{Within}}
 use Rattle.site_folder.proofs.rounds.remove_taken.Given as goal
 
 abbrev pub invariant-loop-act : goal.invariant-loop-act

@@ -1,8 +1,5 @@
 use Rattle.std.proofs.Common.{◌≡◌, ◌+◌, length, map, Option, Some, sym, subst, rules}
-use Rattle.site_folder.specs.Crashes.{LeavesOnly}
-use Rattle.site_folder.specs.Parts.{seen_act, acts_of}
-use Rattle.site_folder.specs.Rounds.{Owed, fitting, IsPaying}
-use Rattle.site_folder.proofs.Pieces.{owes}
+use Rattle.site_folder.{specs.Crashes.{LeavesOnly}, specs.Parts.{seen_act, acts_of}, specs.Rounds.{Owed, fitting, IsPaying}, proofs.Pieces.{owes}}
 use Rattle.site_folder.proofs.rounds.settle_files.Goals as goal
 
 pub returns-in_err-pay-in-Some-clause-any_moment : goal.returns-in_err-pay-in-Some-clause-any_moment

@@ -1,8 +1,7 @@
 use Rattle.std.proofs.Common.{◌≡◌, ◌+◌, ◌≤◌, [], length}
 use Rattle.std.specs.Str.Lines.{lines}
 use Rattle.mon_catalogue.specs.Progress.{SetDue, lines_taken}
-use Rattle.site_plan.specs.Walks.{walked}
-use Rattle.site_plan.specs.Catalogues.{after_line}
+use Rattle.site_plan.specs.{Walks.{walked}, Catalogues.{after_line}}
 use Rattle.site_plan.proofs.catalogue.read_sets.Given as goal
 
 abbrev pub invariant-lines : goal.invariant-lines

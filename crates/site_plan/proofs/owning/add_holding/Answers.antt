@@ -1,8 +1,6 @@
 use Rattle.std.proofs.Common.{◌≡◌, [], ◌∷◌, ◌++◌, Some, None, map, slice_get, sym, ap, ◌∙◌, append-nil}
 use Rattle.std.specs.Option.{option_copied}
-use Rattle.site_plan.specs.declared.owning.Holding.{Holding}
-use Rattle.site_plan.specs.Owning.{held_by}
-use Rattle.site_plan.proofs.Owners.{one_there, none_there}
+use Rattle.site_plan.{specs.declared.owning.Holding.{Holding}, specs.Owning.{held_by}, proofs.Owners.{one_there, none_there}}
 use Rattle.site_plan.proofs.owning.add_holding.Goals as goal
 
 pub returns-in_ok-push-in-Some : goal.returns-in_ok-push-in-Some

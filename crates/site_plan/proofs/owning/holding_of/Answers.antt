@@ -1,5 +1,4 @@
-use Rattle.site_plan.specs.Owning.{with_set}
-use Rattle.site_plan.proofs.Owners.{gathered_on}
+use Rattle.site_plan.{specs.Owning.{with_set}, proofs.Owners.{gathered_on}}
 use Rattle.site_plan.proofs.owning.holding_of.Goals as goal
 
 pub loop-place-preserved : goal.loop-place-preserved

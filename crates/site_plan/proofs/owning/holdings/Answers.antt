@@ -1,7 +1,5 @@
 use Rattle.std.proofs.Common.{List, ap, ◌∙◌, ◌++◌, map, take, drop}
-use Rattle.site_plan.specs.declared.owning.Holding.{Holding}
-use Rattle.site_plan.specs.Owning.{held_by}
-use Rattle.site_plan.proofs.Owners.{one_more}
+use Rattle.site_plan.{specs.declared.owning.Holding.{Holding}, specs.Owning.{held_by}, proofs.Owners.{one_more}}
 use Rattle.site_plan.proofs.owning.holdings.Goals as goal
 
 pub loop-place-preserved : goal.loop-place-preserved

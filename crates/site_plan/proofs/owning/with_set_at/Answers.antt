@@ -1,8 +1,6 @@
 use Rattle.std.proofs.Common.{sym, ap, ◌∙◌}
-use Rattle.std.specs.Option.{option_map}
-use Rattle.std.specs.Map.Iter.{deref_pair}
-use Rattle.site_plan.specs.Owning.{with_sets}
-use Rattle.site_plan.proofs.Owners.{one_there, none_there}
+use Rattle.std.specs.{Option.{option_map}, Map.Iter.{deref_pair}}
+use Rattle.site_plan.{specs.Owning.{with_sets}, proofs.Owners.{one_there, none_there}}
 use Rattle.site_plan.proofs.owning.with_set_at.Goals as goal
 
 pub returns-in-Some : goal.returns-in-Some

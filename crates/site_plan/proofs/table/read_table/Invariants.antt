@@ -1,7 +1,6 @@
 use Rattle.std.proofs.Common.{◌≡◌, ◌+◌, ◌≤◌, [], length}
 use Rattle.std.specs.Str.Lines.{lines}
-use Rattle.site_plan.specs.Walks.{walked}
-use Rattle.site_plan.specs.Tables.{after_line}
+use Rattle.site_plan.specs.{Walks.{walked}, Tables.{after_line}}
 use Rattle.site_plan.proofs.table.read_table.Given as goal
 
 abbrev pub invariant-lines : goal.invariant-lines

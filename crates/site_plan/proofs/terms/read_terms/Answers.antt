@@ -1,6 +1,5 @@
 use Rattle.std.proofs.Common.{length, ap, arith}
-use Rattle.site_plan.specs.Terms.{after_line}
-use Rattle.site_plan.proofs.Walking.{walk_on}
+use Rattle.site_plan.{specs.Terms.{after_line}, proofs.Walking.{walk_on}}
 use Rattle.site_plan.proofs.terms.read_terms.Goals as goal
 
 pub lines-preserved : goal.lines-preserved

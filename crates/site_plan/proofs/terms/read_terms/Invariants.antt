@@ -1,7 +1,6 @@
 use Rattle.std.proofs.Common.{◌≡◌, ◌+◌, ◌≤◌, [], length}
 use Rattle.std.specs.Str.Lines.{lines}
-use Rattle.site_plan.specs.Walks.{walked}
-use Rattle.site_plan.specs.Terms.{after_line}
+use Rattle.site_plan.specs.{Walks.{walked}, Terms.{after_line}}
 use Rattle.site_plan.proofs.terms.read_terms.Given as goal
 
 abbrev pub invariant-lines : goal.invariant-lines

@@ -1,6 +1,5 @@
 use Rattle.std.proofs.Common.{◌∙◌, ap, length, unwrap_or}
-use Rattle.sno_cards.specs.Cards.{is_end_line}
-use Rattle.sno_cards.proofs.Finding.{place_from_position}
+use Rattle.sno_cards.{specs.Cards.{is_end_line}, proofs.Finding.{place_from_position}}
 use Rattle.sno_cards.proofs.card.end_index.Goals as goal
 
 pub returns-clause-place : goal.returns-clause-place

@@ -1,12 +1,9 @@
 use Rattle.std.proofs.Common.{◌≡◌, ◌+◌, ◌∷◌, ◌++◌, [], drop, IfOk, false, true, sym, ap, ◌∙◌, subst, arith}
 use Rattle.std.proofs.lemmas.List.{drop_more, drop_all}
-use Rattle.sno_cards.specs.Cards.{kind_of, is_start, is_continuation}
-use Rattle.sno_cards.specs.Statements.{placed_on, without_mark}
-use Rattle.sno_cards.specs.inner.Cuts.{Cut, cut_of, fed}
-use Rattle.sno_cards.proofs.Pieces.{fed-append}
-use Rattle.sno_cards.proofs.Continuing.{on_cards, ends_at, goes_on, passes_over, whole_line}
-use Rattle.sno_cards.proofs.lines.cut_line.Goals as goal
+use Rattle.sno_cards.specs.{Cards.{kind_of, is_start, is_continuation}, Statements.{placed_on, without_mark}, inner.Cuts.{Cut, cut_of, fed}}
+use Rattle.sno_cards.proofs.{Pieces.{fed-append}, Continuing.{on_cards, ends_at, goes_on, passes_over, whole_line}}
 use Rattle.sno_cards.proofs.lines.cut_line.Goals.{then-is_continuation+in_ok-feed_continuation, else-is_continuation}
+use Rattle.sno_cards.proofs.lines.cut_line.Goals as goal
 
 pub loop-index-init : goal.loop-index-init
 loop-index-init c =

@@ -1,7 +1,5 @@
 use Rattle.std.proofs.Common.{◌≡◌, ◌+◌, ◌++◌, drop, filter}
-use Rattle.sno_cards.specs.Statements.{placed_on, continued, numbered}
-use Rattle.sno_cards.specs.inner.Parts.{is_statement_card}
-use Rattle.sno_cards.specs.inner.Cuts.{cut_of, begun, fed}
+use Rattle.sno_cards.specs.{Statements.{placed_on, continued, numbered}, inner.Parts.{is_statement_card}, inner.Cuts.{cut_of, begun, fed}}
 use Rattle.sno_cards.proofs.lines.cut_line.Given as goal
 
 -- what is cut so far, fed with what continues the line on the cards that are left, is the whole line cut

@@ -1,6 +1,5 @@
 use Rattle.std.proofs.Common.{◌≡◌, ◌++◌, ◌<◌, ◌/◌, take, ap, ◌∙◌, take-append-drop, length, arith}
-use Rattle.sno_cards.specs.inner.Segments.{nowhere}
-use Rattle.sno_cards.proofs.Placing.{by_later_half, by_earlier_half, later_ascends, earlier_ascends}
+use Rattle.sno_cards.{specs.inner.Segments.{nowhere}, proofs.Placing.{by_later_half, by_earlier_half, later_ascends, earlier_ascends}}
 use Rattle.sno_cards.proofs.text.place_by.Goals as goal
 
 pub loop-rest-preserved-then-behind-offset : goal.loop-rest-preserved-then-behind-offset

@@ -1,9 +1,7 @@
 -- What has been read, and what is left, are all items.
 use Rattle.std.proofs.Common.{◌≡◌, ◌+◌, ◌++◌, true, map, length}
-use Rattle.std.specs.List.{list_all, slice_split}
-use Rattle.std.specs.Option.{option_map_or}
-use Rattle.sno_declarations.specs.Prototypes.{is_identifier, trimmed}
-use Rattle.sno_declarations.specs.inner.Reading.{items_from}
+use Rattle.std.specs.{List.{list_all, slice_split}, Option.{option_map_or}}
+use Rattle.sno_declarations.specs.{Prototypes.{is_identifier, trimmed}, inner.Reading.{items_from}}
 use Rattle.sno_declarations.proofs.prototype.read_items.Given as goal
 use Rattle.mon_text.specs.Characters.{is_comma}
 

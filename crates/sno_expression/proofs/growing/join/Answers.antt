@@ -1,9 +1,6 @@
 -- A run of none.
 use Rattle.std.proofs.Common.{◌∙◌, ap, List}
-use Rattle.sno_expression.specs.declared.tree.Pending.{Pending}
-use Rattle.sno_expression.specs.Expressions.{Binary}
-use Rattle.sno_expression.specs.Abstraction.{expression_of}
-use Rattle.sno_expression.specs.inner.Runs.{spread_all}
+use Rattle.sno_expression.specs.{declared.tree.Pending.{Pending}, Expressions.{Binary}, Abstraction.{expression_of}, inner.Runs.{spread_all}}
 use Rattle.sno_expression.proofs.Runs.{binary_is, made}
 use Rattle.sno_expression.proofs.growing.join.Goals as goal
 

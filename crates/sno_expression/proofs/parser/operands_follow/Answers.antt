@@ -1,12 +1,8 @@
 -- Each turn is one or two steps that the reading takes.
 use Rattle.std.proofs.Common.{rules, arith, ◌+◌, ◌∙◌, drop, ap, sym}
 use Rattle.std.specs.Prelude.{false}
-use Rattle.sno_expression.specs.Expressions.{Expression}
-use Rattle.sno_expression.specs.Abstraction.{expression_of}
-use Rattle.sno_expression.specs.inner.Reading.{At, Bottom, Whole}
-use Rattle.sno_expression.specs.inner.Runs.{spread_all}
-use Rattle.sno_expression.specs.inner.Telling.{told}
-use Rattle.sno_expression.proofs.First.{goes_from}
+use Rattle.sno_expression.{specs.Expressions.{Expression}, specs.Abstraction.{expression_of}, specs.inner.Reading.{At, Bottom, Whole}, proofs.First.{goes_from}}
+use Rattle.sno_expression.specs.inner.{Runs.{spread_all}, Telling.{told}}
 use Rattle.sno_expression.proofs.parser.operands_follow.Goals as goal
 
 pub overflow_add-at : goal.overflow_add-at

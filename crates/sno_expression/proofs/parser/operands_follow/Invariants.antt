@@ -1,10 +1,7 @@
 -- What is read from here on is what was to be read at first; what stands open is in order.
 use Rattle.std.proofs.Common.{◌≡◌, ◌≤◌, ◌-◌, drop, length}
 use Rattle.std.specs.Prelude.{true, false}
-use Rattle.sno_expression.specs.Abstraction.{expression_of}
-use Rattle.sno_expression.specs.inner.Reading.{At, Bottom, Whole}
-use Rattle.sno_expression.specs.inner.Runs.{spread_all}
-use Rattle.sno_expression.specs.inner.Spines.{is_element, is_ordered}
+use Rattle.sno_expression.specs.{Abstraction.{expression_of}, inner.Reading.{At, Bottom, Whole}, inner.Runs.{spread_all}, inner.Spines.{is_element, is_ordered}}
 use Rattle.sno_expression.specs.inner.Telling.{told}
 use Rattle.sno_expression.proofs.parser.operands_follow.Given as goal
 

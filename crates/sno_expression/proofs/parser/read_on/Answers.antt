@@ -1,12 +1,8 @@
 use Rattle.std.proofs.Common.{◌≡◌, ℕ, ◌+◌, ◌-◌, ◌∙◌, ap, sym, drop, length, arith}
 use Rattle.std.specs.Prelude.{Option}
-use Rattle.sno_expression.specs.declared.position.Paren.{Paren}
-use Rattle.sno_expression.specs.declared.position.Position.{Position}
-use Rattle.sno_expression.specs.Abstraction.{expressions_of}
-use Rattle.sno_expression.specs.inner.Reading.{inner_of, parens, position}
-use Rattle.sno_expression.specs.inner.Telling.{most, lack, lack_at, fits, told, with_lack}
-use Rattle.sno_expression.specs.inner.Told.{stack_of, spot_of, state_of}
-use Rattle.sno_expression.proofs.Loop.{more, on_next, on_end, left_from}
+use Rattle.sno_expression.specs.{declared.position.Paren.{Paren}, declared.position.Position.{Position}, Abstraction.{expressions_of}}
+use Rattle.sno_expression.specs.inner.{Reading.{inner_of, parens, position}, Telling.{most, lack, lack_at, fits, told, with_lack}}
+use Rattle.sno_expression.{specs.inner.Told.{stack_of, spot_of, state_of}, proofs.Loop.{more, on_next, on_end, left_from}}
 use Rattle.sno_expression.proofs.parser.read_on.Goals as goal
 
 pub returns-in-End : goal.returns-in-End

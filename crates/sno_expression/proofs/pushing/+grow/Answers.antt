@@ -1,8 +1,6 @@
 -- Where the innermost operator is closed, those around it stay in order, and the new one takes what it made as its left operand.
 use Rattle.std.proofs.Common.{◌∙◌, ap, sym, arith}
-use Rattle.sno_expression.specs.Abstraction.{expression_of}
-use Rattle.sno_expression.specs.inner.Spines.{is_under_all}
-use Rattle.sno_expression.proofs.Spines.{fits_joined, ordered_popped, under_last}
+use Rattle.sno_expression.{specs.Abstraction.{expression_of}, specs.inner.Spines.{is_under_all}, proofs.Spines.{fits_joined, ordered_popped, under_last}}
 use Rattle.sno_expression.proofs.pushing.+grow.Goals as goal
 
 pub grow-requires : goal.grow-requires

@@ -1,6 +1,5 @@
 -- The new operator stands innermost.
-use Rattle.sno_expression.proofs.Spines.{grown_pushed}
-use Rattle.sno_expression.specs.Abstraction.{expression_of}
+use Rattle.sno_expression.{proofs.Spines.{grown_pushed}, specs.Abstraction.{expression_of}}
 use Rattle.sno_expression.proofs.pushing.nest.Goals as goal
 
 pub returns : goal.returns

@@ -1,8 +1,6 @@
 use Rattle.std.proofs.Common.{◌∙◌, ap, length}
-use Rattle.std.specs.Option.{unwrap_or}
-use Rattle.std.specs.Prelude.{Option, ℕ, not}
-use Rattle.sno_lexer.specs.inner.Classes.{goes_on}
-use Rattle.sno_lexer.proofs.Runs.{or_length}
+use Rattle.std.specs.{Option.{unwrap_or}, Prelude.{Option, ℕ, not}}
+use Rattle.sno_lexer.{specs.inner.Classes.{goes_on}, proofs.Runs.{or_length}}
 use Rattle.sno_lexer.proofs.character.length_of.Goals as goal
 
 pub returns-clause-offset : goal.returns-clause-offset

@@ -1,11 +1,8 @@
 use Rattle.std.proofs.Common.{◌+◌, ◌-◌, ◌∙◌, ℕ, List, ap, sym, length, drop, take, get_or}
 use Rattle.std.proofs.lemmas.List.{take_rest}
-use Rattle.sno_lexer.specs.inner.Lexing.{counted, stage}
-use Rattle.sno_lexer.specs.Lexed.{lexed}
-use Rattle.sno_lexer.proofs.Runs.{more}
+use Rattle.sno_lexer.{specs.inner.Lexing.{counted, stage}, specs.Lexed.{lexed}, proofs.Runs.{more}, proofs.lexing.count_tokens.Goals.{in-Pass, in-Take}}
 use Rattle.sno_lexer.proofs.Loop.{after_is, counted_on, taken_fits, tokens_left, within_after, within_passed, count_pass, count_take}
 use Rattle.sno_lexer.proofs.lexing.count_tokens.Goals as goal
-use Rattle.sno_lexer.proofs.lexing.count_tokens.Goals.{in-Pass, in-Take}
 
 pub after-context-requires-clause-tokens : goal.after-context-requires-clause-tokens
 after-context-requires-clause-tokens c =

@@ -1,7 +1,5 @@
 use Rattle.std.proofs.Common.{sym, Err}
-use Rattle.sno_lexer.proofs.Loop.{counted_fault}
-use Rattle.sno_lexer.proofs.Places.{lexed_stands}
-use Rattle.sno_lexer.specs.Lexed.{lexed}
+use Rattle.sno_lexer.{proofs.Loop.{counted_fault}, proofs.Places.{lexed_stands}, specs.Lexed.{lexed}}
 use Rattle.sno_lexer.proofs.lexing.lex.Goals as goal
 
 pub returns-in-Ok-clause-within : goal.returns-in-Ok-clause-within

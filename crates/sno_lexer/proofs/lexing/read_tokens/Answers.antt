@@ -1,12 +1,7 @@
 use Rattle.std.proofs.Common.{arith, ◌+◌, ◌-◌, ◌≡◌, ◌∙◌, ℕ, List, Ok, Err, ap, sym, length, drop, drop-drop, take, get_or}
-use Rattle.std.specs.Prelude.{true, false, nat_lt}
-use Rattle.std.proofs.lemmas.List.{take_rest}
-use Rattle.sno_lexer.specs.declared.lexing.Action.TheVariants.{Take, Refuse}
-use Rattle.sno_lexer.specs.declared.begin.Context.{Context}
-use Rattle.sno_lexer.specs.inner.Classes.{further}
-use Rattle.sno_lexer.specs.inner.Lexing.{after, stage, step}
-use Rattle.sno_lexer.specs.Lexed.{lexed}
-use Rattle.sno_lexer.proofs.Runs.{more}
+use Rattle.std.{specs.Prelude.{true, false, nat_lt}, proofs.lemmas.List.{take_rest}}
+use Rattle.sno_lexer.specs.{declared.lexing.Action.TheVariants.{Take, Refuse}, declared.begin.Context.{Context}, inner.Classes.{further}}
+use Rattle.sno_lexer.{specs.inner.Lexing.{after, stage, step}, specs.Lexed.{lexed}, proofs.Runs.{more}}
 use Rattle.sno_lexer.proofs.Loop.{at_blank, at_other, joined, taken_fits, taken_line, tokens_left, within_after, within_passed, within_passed_over, on_pass, on_passed, on_refuse, as_many_taken}
 use Rattle.sno_lexer.proofs.lexing.read_tokens.Goals as goal
 

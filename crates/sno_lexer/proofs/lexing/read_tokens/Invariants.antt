@@ -1,8 +1,6 @@
 -- What has been found, and what is found from here on, is what the text has; no limit has been passed, and no token is half read.
 use Rattle.std.proofs.Common.{◌≡◌, ◌-◌, drop, length}
-use Rattle.sno_lexer.specs.inner.Lexing.{stage}
-use Rattle.sno_lexer.specs.Lexed.{lexed}
-use Rattle.sno_lexer.proofs.Loop.{IsWithin, joined}
+use Rattle.sno_lexer.{specs.inner.Lexing.{stage}, specs.Lexed.{lexed}, proofs.Loop.{IsWithin, joined}}
 use Rattle.sno_lexer.proofs.lexing.read_tokens.Given as goal
 
 abbrev pub invariant-loop-offset : goal.invariant-loop-offset

@@ -1,6 +1,5 @@
 use Rattle.std.proofs.Common.{arith}
-use Rattle.sno_pattern.specs.inner.Stack.{waiting_of}
-use Rattle.sno_pattern.proofs.Pushing.{each_last, each_more}
+use Rattle.sno_pattern.{specs.inner.Stack.{waiting_of}, proofs.Pushing.{each_last, each_more}}
 use Rattle.sno_pattern.proofs.choice_points.each.Goals as goal
 
 pub returns-then-at-text : goal.returns-then-at-text

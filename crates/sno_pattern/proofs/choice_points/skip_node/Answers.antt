@@ -1,8 +1,6 @@
 use Rattle.std.proofs.Common.{◌∙◌, sym, arith}
 use Rattle.sno_text.specs.Nodes.{pattern_of}
-use Rattle.sno_pattern.proofs.Reaches.{nowhere_of}
-use Rattle.sno_pattern.proofs.Pushing.{skip_one}
-use Rattle.sno_pattern.proofs.Jumping.{skip_many}
+use Rattle.sno_pattern.proofs.{Reaches.{nowhere_of}, Pushing.{skip_one}, Jumping.{skip_many}}
 use Rattle.sno_pattern.proofs.choice_points.skip_node.Goals as goal
 
 pub loop-at-preserved : goal.loop-at-preserved

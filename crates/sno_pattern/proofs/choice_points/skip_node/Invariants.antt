@@ -1,8 +1,7 @@
 use Rattle.std.proofs.Common.{◌≡◌, ◌≤◌, ◌+◌, ◌-◌, List, ◌∷◌, length}
 use Rattle.std.specs.List.{range_with_len}
 use Rattle.sno_text.specs.Nodes.{pattern_of}
-use Rattle.sno_pattern.specs.declared.ending.Pending.{Pending}
-use Rattle.sno_pattern.specs.Steps.{Goal, Meet, at_each, outcome}
+use Rattle.sno_pattern.specs.{declared.ending.Pending.{Pending}, Steps.{Goal, Meet, at_each, outcome}}
 use Rattle.sno_pattern.proofs.choice_points.skip_node.Given as goal
 
 abbrev pub invariant-loop-at : goal.invariant-loop-at

@@ -1,13 +1,8 @@
 use Rattle.std.proofs.Common.{◌-◌, ◌∷◌, ap, arith}
 use Rattle.interaction.proofs.Held.{cut_here}
-use Rattle.sno_text.specs.Nodes.{pattern_of}
-use Rattle.sno_text.specs.Balance.{part}
-use Rattle.sno_pattern.specs.Looks.{Fits}
-use Rattle.sno_pattern.specs.declared.host.Taken.TheVariants.{Part}
-use Rattle.sno_pattern.specs.Steps.{EndImmediate, outcome}
-use Rattle.sno_pattern.specs.inner.Stack.{variable_in, waiting_of, resume, assigning}
-use Rattle.sno_pattern.proofs.Pushing.{immediate_asks, not_stepped, quietly, moved_as, cut_as}
-use Rattle.sno_pattern.proofs.Run.{err_holds}
+use Rattle.sno_text.specs.{Nodes.{pattern_of}, Balance.{part}}
+use Rattle.sno_pattern.{specs.Looks.{Fits}, specs.declared.host.Taken.TheVariants.{Part}, specs.Steps.{EndImmediate, outcome}, proofs.Run.{err_holds}}
+use Rattle.sno_pattern.{specs.inner.Stack.{variable_in, waiting_of, resume, assigning}, proofs.Pushing.{immediate_asks, not_stepped, quietly, moved_as, cut_as}}
 use Rattle.sno_pattern.proofs.consuming.assign_part.Goals as goal
 
 pub returns-then-left-eq0-clause-moved : goal.returns-then-left-eq0-clause-moved

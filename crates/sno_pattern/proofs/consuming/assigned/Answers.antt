@@ -1,9 +1,6 @@
 use Rattle.std.proofs.Common.{refl, arith}
-use Rattle.sno_pattern.specs.Looks.{Given, Refused, Faulty}
-use Rattle.sno_pattern.specs.Steps.{outcome}
-use Rattle.sno_pattern.specs.inner.Stack.{waiting_of, assigning}
-use Rattle.sno_pattern.proofs.Pushing.{goes_on, faults, asked, asked_cut, asked_broken}
-use Rattle.sno_pattern.proofs.Run.{err_holds}
+use Rattle.sno_pattern.specs.{Looks.{Given, Refused, Faulty}, Steps.{outcome}, inner.Stack.{waiting_of, assigning}}
+use Rattle.sno_pattern.proofs.{Pushing.{goes_on, faults, asked, asked_cut, asked_broken}, Run.{err_holds}}
 use Rattle.sno_pattern.proofs.consuming.assigned.Goals as goal
 
 pub returns-in_err-back-in-Err-Fail-clause-cut : goal.returns-in_err-back-in-Err-Fail-clause-cut

@@ -1,9 +1,6 @@
 use Rattle.std.proofs.Common.{◌∷◌, refl, sym, ap, arith}
-use Rattle.sno_pattern.specs.Looks.{Found, Refused, Faulty}
-use Rattle.sno_pattern.specs.Steps.{Meet, pattern_found, outcome}
-use Rattle.sno_pattern.specs.inner.Stack.{waiting_of, looking}
-use Rattle.sno_pattern.proofs.Pushing.{hands_on, faults, asked, asked_cut, asked_broken}
-use Rattle.sno_pattern.proofs.Run.{err_holds}
+use Rattle.sno_pattern.specs.{Looks.{Found, Refused, Faulty}, Steps.{Meet, pattern_found, outcome}, inner.Stack.{waiting_of, looking}}
+use Rattle.sno_pattern.proofs.{Pushing.{hands_on, faults, asked, asked_cut, asked_broken}, Run.{err_holds}}
 use Rattle.sno_pattern.proofs.consuming.looked.Goals as goal
 
 pub returns-in_err-node-in-Ok-clause-cut : goal.returns-in_err-node-in-Ok-clause-cut

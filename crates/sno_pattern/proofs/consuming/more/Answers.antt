@@ -1,9 +1,7 @@
 use Rattle.std.proofs.Common.{rules, ◌-◌, arith}
 use Rattle.std.proofs.lemmas.Result.{IfOk-weaker}
 use Rattle.sno_text.specs.Nodes.{pattern_of}
-use Rattle.sno_pattern.specs.Steps.{More}
-use Rattle.sno_pattern.specs.inner.Stack.{waiting_of}
-use Rattle.sno_pattern.proofs.Pushing.{more_stuck, more_turn, stepped, not_stepped, led_falls}
+use Rattle.sno_pattern.{specs.Steps.{More}, specs.inner.Stack.{waiting_of}, proofs.Pushing.{more_stuck, more_turn, stepped, not_stepped, led_falls}}
 use Rattle.sno_pattern.proofs.consuming.more.Goals as goal
 
 pub returns-then-left-eq0-clause-led : goal.returns-then-left-eq0-clause-led

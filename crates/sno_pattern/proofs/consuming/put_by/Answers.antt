@@ -1,8 +1,6 @@
 use Rattle.std.proofs.Common.{◌-◌}
 use Rattle.sno_text.specs.Nodes.{pattern_of}
-use Rattle.sno_pattern.specs.Steps.{EndConditional}
-use Rattle.sno_pattern.specs.inner.Stack.{variable_in, waiting_of}
-use Rattle.sno_pattern.proofs.Pushing.{end_cond, stepped, not_stepped}
+use Rattle.sno_pattern.{specs.Steps.{EndConditional}, specs.inner.Stack.{variable_in, waiting_of}, proofs.Pushing.{end_cond, stepped, not_stepped}}
 use Rattle.sno_pattern.proofs.consuming.put_by.Goals as goal
 
 pub returns-then-left-eq0-clause-led : goal.returns-then-left-eq0-clause-led

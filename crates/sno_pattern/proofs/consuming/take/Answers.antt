@@ -1,9 +1,6 @@
 use Rattle.std.proofs.Common.{◌∷◌, refl, arith}
 use Rattle.interaction.proofs.Held.{cut_here}
-use Rattle.sno_pattern.specs.Looks.{Fits}
-use Rattle.sno_pattern.specs.Steps.{outcome}
-use Rattle.sno_pattern.specs.inner.Stack.{goal_of, waiting_of, resume}
-use Rattle.sno_pattern.proofs.Pushing.{hands_on, quietly}
+use Rattle.sno_pattern.{specs.Looks.{Fits}, specs.Steps.{outcome}, specs.inner.Stack.{goal_of, waiting_of, resume}, proofs.Pushing.{hands_on, quietly}}
 use Rattle.sno_pattern.proofs.consuming.take.Goals as goal
 
 pub returns-in-Meet-clause-moved : goal.returns-in-Meet-clause-moved

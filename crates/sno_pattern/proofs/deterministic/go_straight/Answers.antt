@@ -1,9 +1,6 @@
 use Rattle.std.proofs.Common.{◌≡◌, ◌-◌, List, [], ◌∷◌, sym, ap, ◌∙◌, arith}
-use Rattle.sno_text.specs.Nodes.{pattern_of}
-use Rattle.sno_text.specs.Patterns.{Cat}
-use Rattle.sno_pattern.specs.Steps.{Goal, Meet, outcome}
-use Rattle.sno_pattern.proofs.Table.{none_left}
-use Rattle.sno_pattern.proofs.Passing.{passes_first}
+use Rattle.sno_text.specs.{Nodes.{pattern_of}, Patterns.{Cat}}
+use Rattle.sno_pattern.{specs.Steps.{Goal, Meet, outcome}, proofs.Table.{none_left}, proofs.Passing.{passes_first}}
 use Rattle.sno_pattern.proofs.deterministic.go_straight.Goals as goal
 
 pub loop-node-preserved : goal.loop-node-preserved

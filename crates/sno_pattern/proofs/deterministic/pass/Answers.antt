@@ -1,7 +1,5 @@
 use Rattle.std.proofs.Common.{◌≡◌, sym, arith}
-use Rattle.sno_text.specs.Nodes.{pattern_of}
-use Rattle.sno_text.specs.declared.reach.Reach.TheVariants.{Here}
-use Rattle.sno_text.specs.inner.Reaching.{reached}
+use Rattle.sno_text.specs.{Nodes.{pattern_of}, declared.reach.Reach.TheVariants.{Here}, inner.Reaching.{reached}}
 use Rattle.sno_pattern.proofs.Passing.{passes, passes_by}
 use Rattle.sno_pattern.proofs.deterministic.pass.Goals as goal
 

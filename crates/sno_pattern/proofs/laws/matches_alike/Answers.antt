@@ -1,6 +1,5 @@
 use Rattle.interaction.proofs.InteractionRuns.{alike_first}
-use Rattle.sno_pattern.specs.Looks.{Fits}
-use Rattle.sno_pattern.specs.Steps.{match_of}
+use Rattle.sno_pattern.specs.{Looks.{Fits}, Steps.{match_of}}
 use Rattle.sno_pattern.proofs.laws.matches_alike.Goals as goal
 
 pub returns : goal.returns

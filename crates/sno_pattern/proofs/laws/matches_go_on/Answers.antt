@@ -1,7 +1,5 @@
 use Rattle.interaction.proofs.Broken.{broken_goes_on}
-use Rattle.sno_pattern.specs.Looks.{Fits}
-use Rattle.sno_pattern.specs.Steps.{match_of}
-use Rattle.sno_pattern.proofs.Firsts.{may_fail}
+use Rattle.sno_pattern.{specs.Looks.{Fits}, specs.Steps.{match_of}, proofs.Firsts.{may_fail}}
 use Rattle.sno_pattern.proofs.laws.matches_go_on.Goals as goal
 
 pub returns : goal.returns

@@ -1,9 +1,6 @@
 use Rattle.std.proofs.Common.{length}
 use Rattle.sno_text.specs.Nodes.{pattern_of}
-use Rattle.sno_pattern.specs.Looks.{Fits}
-use Rattle.sno_pattern.specs.Steps.{match_of}
-use Rattle.sno_pattern.specs.Places.{MatchesWithin}
-use Rattle.sno_pattern.proofs.Within.{matches_within, held_ends}
+use Rattle.sno_pattern.{specs.Looks.{Fits}, specs.Steps.{match_of}, specs.Places.{MatchesWithin}, proofs.Within.{matches_within, held_ends}}
 use Rattle.sno_pattern.proofs.matching.matches.Goals as goal
 
 pub returns-in-Ok-clause-within : goal.returns-in-Ok-clause-within

@@ -1,10 +1,8 @@
 use Rattle.std.proofs.Common.{rules, ◌≡◌, suc, ◌+◌, ◌-◌, refl, arith}
-use Rattle.sno_pattern.specs.inner.Running.{finishing}
-use Rattle.sno_pattern.specs.Steps.{Success, WholeFails, OutOfSteps, Fault}
+use Rattle.sno_pattern.specs.{inner.Running.{finishing}, Steps.{Success, WholeFails, OutOfSteps, Fault}, inner.Stack.{waiting_of}}
 use Rattle.sno_pattern.specs.declared.ending.MatchEnd.TheVariants.{Matched, NoMatch, Limit, Fault as Faulted}
-use Rattle.sno_text.specs.Nodes.{pattern_of}
-use Rattle.sno_pattern.specs.inner.Stack.{waiting_of}
 use Rattle.sno_pattern.proofs.Run.{came_stops, came_as, came_start, came_next, came_end, came_settles, came_breaks, err_holds}
+use Rattle.sno_text.specs.Nodes.{pattern_of}
 use Rattle.sno_pattern.proofs.matching.matches_from.Goals as goal
 
 pub loop-from-init : goal.loop-from-init

@@ -1,7 +1,6 @@
 use Rattle.std.proofs.Common.{◌-◌}
-use Rattle.sno_pattern.specs.inner.Running.{finishing}
+use Rattle.sno_pattern.{specs.inner.Running.{finishing}, proofs.Run.{Came}}
 use Rattle.sno_text.specs.Nodes.{pattern_of}
-use Rattle.sno_pattern.proofs.Run.{Came}
 use Rattle.sno_pattern.proofs.matching.matches_from.Given as goal
 
 abbrev pub invariant-loop-from : goal.invariant-loop-from

@@ -1,16 +1,10 @@
 use Rattle.std.proofs.Common.{◌≡◌, ◌+◌, length, refl, sym, ◌∙◌, subst}
 use Rattle.std.specs.Prelude.{if◌then◌else◌}
-use Rattle.interaction.specs.Interactions.{Interaction}
-use Rattle.interaction.specs.Holding.{RunsTo}
-use Rattle.interaction.proofs.Held.{cut_here}
-use Rattle.sno_pattern.specs.Steps.{match_of}
+use Rattle.interaction.{specs.Interactions.{Interaction}, specs.Holding.{RunsTo}, proofs.Held.{cut_here}}
+use Rattle.sno_pattern.specs.{Steps.{match_of}, declared.ending.MatchEnd.{MatchEnd}, declared.ending.MatchEnd.TheVariants.{NoMatch}, Looks.{Look, Told, Fits}}
+use Rattle.sno_pattern.proofs.{Run.{match_is, no_start}, matching.matches_in.Goals.{then-anchored, else-anchored}}
 use Rattle.sno_text.specs.Nodes.{pattern_of}
-use Rattle.sno_pattern.specs.declared.ending.MatchEnd.{MatchEnd}
-use Rattle.sno_pattern.specs.declared.ending.MatchEnd.TheVariants.{NoMatch}
-use Rattle.sno_pattern.specs.Looks.{Look, Told, Fits}
-use Rattle.sno_pattern.proofs.Run.{match_is, no_start}
 use Rattle.sno_pattern.proofs.matching.matches_in.Goals as goal
-use Rattle.sno_pattern.proofs.matching.matches_in.Goals.{then-anchored, else-anchored}
 
 pub returns-then-first-starts-clause-held : goal.returns-then-first-starts-clause-held
 returns-then-first-starts-clause-held g c =

@@ -1,8 +1,6 @@
 use Rattle.std.proofs.Common.{rules, ◌∷◌, refl, sym, ap, ◌∙◌, arith}
 use Rattle.sno_text.specs.Nodes.{pattern_of}
-use Rattle.sno_pattern.specs.Steps.{Meet, outcome}
-use Rattle.sno_pattern.specs.inner.Stack.{waiting_of}
-use Rattle.sno_pattern.proofs.Reaches.{nowhere_of}
+use Rattle.sno_pattern.{specs.Steps.{Meet, outcome}, specs.inner.Stack.{waiting_of}, proofs.Reaches.{nowhere_of}}
 use Rattle.sno_pattern.proofs.Entering.{pays, runs_out, cat_ends, cat_fails, cat_waits, alt_fails, alt_tries, conditional_met, immediate_met}
 use Rattle.sno_pattern.proofs.meeting.descend.Goals as goal
 

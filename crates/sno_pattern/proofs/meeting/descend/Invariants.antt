@@ -1,8 +1,6 @@
 use Rattle.std.proofs.Common.{◌∷◌}
 use Rattle.sno_text.specs.Nodes.{pattern_of}
-use Rattle.sno_pattern.specs.Steps.{Meet, outcome}
-use Rattle.sno_pattern.specs.inner.Stack.{waiting_of}
-use Rattle.sno_pattern.proofs.Entering.{Coming}
+use Rattle.sno_pattern.{specs.Steps.{Meet, outcome}, specs.inner.Stack.{waiting_of}, proofs.Entering.{Coming}}
 use Rattle.sno_pattern.proofs.meeting.descend.Given as goal
 
 abbrev pub invariant-loop-left : goal.invariant-loop-left

@@ -1,10 +1,7 @@
 use Rattle.std.proofs.Common.{◌∷◌, refl, ap, arith}
 use Rattle.sno_text.specs.Nodes.{pattern_of}
-use Rattle.sno_pattern.specs.declared.host.Taken.TheVariants.{Cursor}
-use Rattle.sno_pattern.specs.declared.choice_points.Turn.TheVariants.{Meet as MeetNow}
-use Rattle.sno_pattern.specs.Steps.{Meet, row, outcome}
-use Rattle.sno_pattern.specs.inner.Meeting.{pattern_met}
-use Rattle.sno_pattern.specs.inner.Stack.{waiting_of, assigning, looking}
+use Rattle.sno_pattern.specs.declared.{host.Taken.TheVariants.{Cursor}, choice_points.Turn.TheVariants.{Meet as MeetNow}}
+use Rattle.sno_pattern.specs.{Steps.{Meet, row, outcome}, inner.Meeting.{pattern_met}, inner.Stack.{waiting_of, assigning, looking}}
 use Rattle.sno_pattern.proofs.Pushing.{rank_most, hands_on, quietly, defer_asks, cursor_asks}
 use Rattle.sno_pattern.proofs.Run.{err_holds, since_turn, since_cut, since_part, since_breaks}
 use Rattle.sno_pattern.proofs.meeting.meet.Goals as goal

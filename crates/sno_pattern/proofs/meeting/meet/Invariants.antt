@@ -1,8 +1,6 @@
 use Rattle.std.proofs.Common.{◌∷◌}
 use Rattle.sno_text.specs.Nodes.{pattern_of}
-use Rattle.sno_pattern.specs.declared.choice_points.Turn.TheVariants.{Meet as MeetNow}
-use Rattle.sno_pattern.specs.Steps.{Meet, outcome}
-use Rattle.sno_pattern.specs.inner.Stack.{waiting_of}
+use Rattle.sno_pattern.specs.{declared.choice_points.Turn.TheVariants.{Meet as MeetNow}, Steps.{Meet, outcome}, inner.Stack.{waiting_of}}
 use Rattle.sno_pattern.proofs.Run.{Since}
 use Rattle.sno_pattern.proofs.meeting.meet.Given as goal
 

@@ -1,9 +1,7 @@
 use Rattle.std.proofs.Common.{[], ◌∷◌}
 use Rattle.interaction.proofs.Held.{cut_here}
 use Rattle.sno_text.specs.Nodes.{pattern_of}
-use Rattle.sno_pattern.specs.Looks.{Fits}
-use Rattle.sno_pattern.specs.Steps.{Meet, outcome}
-use Rattle.sno_pattern.proofs.Run.{on_cut, on_success, err_holds}
+use Rattle.sno_pattern.{specs.Looks.{Fits}, specs.Steps.{Meet, outcome}, proofs.Run.{on_cut, on_success, err_holds}}
 use Rattle.sno_pattern.proofs.running.run.Goals as goal
 
 pub returns-in_err-clone-clause-cut : goal.returns-in_err-clone-clause-cut

@@ -1,8 +1,6 @@
 use Rattle.std.proofs.Common.{[], ◌∷◌}
 use Rattle.sno_text.specs.Nodes.{pattern_of}
-use Rattle.sno_pattern.specs.Steps.{Meet, outcome}
-use Rattle.sno_pattern.specs.inner.Stack.{rank}
-use Rattle.sno_pattern.proofs.Run.{On}
+use Rattle.sno_pattern.{specs.Steps.{Meet, outcome}, specs.inner.Stack.{rank}, proofs.Run.{On}}
 use Rattle.sno_pattern.proofs.running.run.Given as goal
 
 abbrev pub invariant-loop-turn : goal.invariant-loop-turn

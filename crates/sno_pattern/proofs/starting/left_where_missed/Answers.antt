@@ -1,7 +1,6 @@
 use Rattle.std.proofs.Common.{◌≡◌, suc, ◌-◌, refl, sym, ◌∙◌, arith}
 use Rattle.sno_text.specs.Nodes.{pattern_of}
-use Rattle.sno_pattern.proofs.Reaches.{nowhere_of}
-use Rattle.sno_pattern.proofs.Missing.{leads_on, leads_nowhere}
+use Rattle.sno_pattern.proofs.{Reaches.{nowhere_of}, Missing.{leads_on, leads_nowhere}}
 use Rattle.sno_pattern.proofs.starting.left_where_missed.Goals as goal
 
 pub loop-left-init : goal.loop-left-init

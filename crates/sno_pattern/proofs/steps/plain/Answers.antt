@@ -1,8 +1,7 @@
 use Rattle.std.proofs.Common.{sym}
 use Rattle.std.proofs.lemmas.Result.{IfOk-weaker}
 use Rattle.sno_text.specs.Nodes.{pattern_of}
-use Rattle.sno_pattern.proofs.Pushing.{stands, misses}
-use Rattle.sno_pattern.proofs.Reaches.{parted_of}
+use Rattle.sno_pattern.proofs.{Pushing.{stands, misses}, Reaches.{parted_of}}
 use Rattle.sno_pattern.proofs.steps.plain.Goals as goal
 
 pub parted-requires-clause-parted : goal.parted-requires-clause-parted

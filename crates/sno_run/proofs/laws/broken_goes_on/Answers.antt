@@ -1,6 +1,4 @@
-use Rattle.interaction.proofs.InteractionRuns.{goes_on}
-use Rattle.interaction.specs.Fitting.{Fits}
-use Rattle.interaction.proofs.Answering.{some_answer}
+use Rattle.interaction.{proofs.InteractionRuns.{goes_on}, specs.Fitting.{Fits}, proofs.Answering.{some_answer}}
 use Rattle.sno_run.specs.Jobs.{turn_of}
 use Rattle.sno_run.proofs.laws.broken_goes_on.Goals as goal
 

@@ -1,7 +1,6 @@
 use Rattle.std.proofs.Common.{◌≤◌, arith}
 use Rattle.sno_semantics.proofs.Depth.{exact_turn}
-use Rattle.sno_state.specs.State.{keeping, allowed}
-use Rattle.sno_state.proofs.Counting.{state_counts}
+use Rattle.sno_state.{specs.State.{keeping, allowed}, proofs.Counting.{state_counts}}
 use Rattle.sno_run.proofs.laws.no_turn_ends_early.Goals as goal
 
 pub returns : goal.returns

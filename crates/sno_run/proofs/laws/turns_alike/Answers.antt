@@ -1,5 +1,4 @@
-use Rattle.interaction.proofs.InteractionRuns.{alike_first}
-use Rattle.interaction.specs.Fitting.{Fits}
+use Rattle.interaction.{proofs.InteractionRuns.{alike_first}, specs.Fitting.{Fits}}
 use Rattle.sno_run.specs.Jobs.{turn_of}
 use Rattle.sno_run.proofs.laws.turns_alike.Goals as goal
 

@@ -1,9 +1,6 @@
 use Rattle.std.proofs.Common.{Some, refl, ◌∙◌}
-use Rattle.sno_run.specs.declared.ending.Ending.TheVariants.{Memory}
-use Rattle.sno_run.specs.declared.ending.Step.TheVariants.{Ended}
-use Rattle.sno_run.specs.Abstraction.{job_of}
-use Rattle.sno_run.specs.inner.Turning.{turned_of}
-use Rattle.sno_run.proofs.Turns.{stepped_mid, turn_told, turn_broken}
+use Rattle.sno_run.specs.{declared.ending.Ending.TheVariants.{Memory}, declared.ending.Step.TheVariants.{Ended}, Abstraction.{job_of}}
+use Rattle.sno_run.{specs.inner.Turning.{turned_of}, proofs.Turns.{stepped_mid, turn_told, turn_broken}}
 use Rattle.sno_run.proofs.turning.statement_turn.Goals as goal
 
 pub returns-in-Ok-clause-turn : goal.returns-in-Ok-clause-turn

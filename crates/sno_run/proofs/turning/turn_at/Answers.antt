@@ -2,9 +2,8 @@ use Rattle.std.proofs.Common.{sym}
 use Rattle.interaction.specs.Counting.{StopsIn}
 use Rattle.sno_bytecode.specs.inner.Seen.{point_seen, next_seen}
 use Rattle.sno_run.specs.inner.Turning.{turned_of, HasLine, turn_coded}
+use Rattle.sno_run.proofs.{Stepping.{at_err}, Standing.{has_line, turn_held, turn_cut, behind_held}}
 use Rattle.sno_state.specs.inner.Counting.{beside}
-use Rattle.sno_run.proofs.Stepping.{at_err}
-use Rattle.sno_run.proofs.Standing.{has_line, turn_held, turn_cut, behind_held}
 use Rattle.sno_run.proofs.turning.turn_at.Goals as goal
 
 pub returns-in_err-next-in-Some-clause-cut : goal.returns-in_err-next-in-Some-clause-cut

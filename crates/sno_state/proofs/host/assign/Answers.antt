@@ -1,12 +1,8 @@
 use Rattle.std.proofs.Common.{subst}
-use Rattle.interaction.specs.Interactions.{Returns}
-use Rattle.interaction.proofs.Held.{cut_first}
-use Rattle.interaction.specs.Asking.{StopsIn}
-use Rattle.interaction.specs.Fitting.{Fits}
+use Rattle.interaction.{specs.Interactions.{Returns}, proofs.Held.{cut_first}, specs.Asking.{StopsIn}, specs.Fitting.{Fits}}
 use Rattle.sno_value.specs.declared.value.Value.{Value}
 use Rattle.sno_pattern.specs.Looks.{Given}
-use Rattle.sno_state.specs.Using.{assigned}
-use Rattle.sno_state.specs.Matching.{value_taken, told_by}
+use Rattle.sno_state.specs.{Using.{assigned}, Matching.{value_taken, told_by}}
 use Rattle.sno_state.proofs.host.assign.Goals as goal
 
 pub returns-clause-told : goal.returns-clause-told

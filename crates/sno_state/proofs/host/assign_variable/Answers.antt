@@ -1,6 +1,4 @@
-use Rattle.interaction.proofs.Held.{cut_here}
-use Rattle.interaction.specs.Fitting.{Fits}
-use Rattle.interaction.proofs.Runs.{broken}
+use Rattle.interaction.{proofs.Held.{cut_here}, specs.Fitting.{Fits}, proofs.Runs.{broken}}
 use Rattle.sno_state.specs.Using.{assigned}
 use Rattle.sno_state.proofs.host.assign_variable.Goals as goal
 

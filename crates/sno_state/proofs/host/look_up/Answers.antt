@@ -1,6 +1,5 @@
 use Rattle.sno_pattern.specs.Looks.{LookUp}
-use Rattle.sno_state.specs.Matching.{looked_at}
-use Rattle.sno_state.proofs.Looking.{value_is, found_at_once}
+use Rattle.sno_state.{specs.Matching.{looked_at}, proofs.Looking.{value_is, found_at_once}}
 use Rattle.sno_state.proofs.host.look_up.Goals as goal
 
 pub returns-in-Plain-clause-told : goal.returns-in-Plain-clause-told

@@ -1,9 +1,6 @@
 use Rattle.std.proofs.Common.{arith, ◌≡◌, ℕ, ap}
-use Rattle.std.specs.Prelude.{true, false, nat_eq}
-use Rattle.std.proofs.lemmas.Bool.Decides.{nat_tests}
-use Rattle.sno_statement.specs.declared.fault.FaultKind.TheVariants.{NoVariable}
-use Rattle.sno_statement.specs.Abstraction.{statement_of}
-use Rattle.sno_statement.specs.inner.Parsing.{FaultAt}
+use Rattle.std.{specs.Prelude.{true, false, nat_eq}, proofs.lemmas.Bool.Decides.{nat_tests}}
+use Rattle.sno_statement.specs.{declared.fault.FaultKind.TheVariants.{NoVariable}, Abstraction.{statement_of}, inner.Parsing.{FaultAt}}
 use Rattle.sno_statement.proofs.Parses.{is_refused, is_lacking, is_read}
 use Rattle.sno_statement.proofs.parsing.parse_statement.Goals as goal
 

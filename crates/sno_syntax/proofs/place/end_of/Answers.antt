@@ -1,13 +1,10 @@
 use Rattle.std.proofs.Common.{◌≡◌, ◌∙◌, ◌+◌, ◌<◌, false, true, length, get_or, drop, ap, arith}
-use Rattle.std.proofs.lemmas.List.{length-map}
-use Rattle.std.proofs.lemmas.Bool.Decides.{nat_tests}
+use Rattle.std.proofs.lemmas.{List.{length-map}, Bool.Decides.{nat_tests}}
 use Rattle.mon_text.specs.Characters.{is_blank}
 use Rattle.sno_cards.specs.Texts.{Placed, text_of}
 use Rattle.sno_syntax.specs.inner.Ends.{place_after}
-use Rattle.sno_syntax.proofs.Ends.{past_blank, past_other}
+use Rattle.sno_syntax.proofs.{Ends.{past_blank, past_other}, place.end_of.Goals.{then-byte-ne32, else-byte-ne32}, Shorthand.{end_from}}
 use Rattle.sno_syntax.proofs.place.end_of.Goals as goal
-use Rattle.sno_syntax.proofs.place.end_of.Goals.{then-byte-ne32, else-byte-ne32}
-use Rattle.sno_syntax.proofs.Shorthand.{end_from}
 
 pub loop-index-preserved : goal.loop-index-preserved
 loop-index-preserved c =

@@ -1,8 +1,6 @@
 use Rattle.std.proofs.Common.{◌≡◌, drop}
-use Rattle.sno_syntax.specs.Places.{end_of}
-use Rattle.sno_syntax.specs.inner.Ends.{place_after}
+use Rattle.sno_syntax.{specs.Places.{end_of}, specs.inner.Ends.{place_after}, proofs.Shorthand.{end_from}}
 use Rattle.sno_syntax.proofs.place.end_of.Given as goal
-use Rattle.sno_syntax.proofs.Shorthand.{end_from}
 
 -- what is left of the text leads to its end
 abbrev pub invariant-loop-index : goal.invariant-loop-index

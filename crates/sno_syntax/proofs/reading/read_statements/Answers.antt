@@ -1,8 +1,7 @@
 use Rattle.std.proofs.Common.{◌≡◌, ◌+◌, ◌∷◌, ◌∙◌, [], drop, sym, ap, subst}
 use Rattle.std.proofs.lemmas.List.{drop_more, drop_all}
 use Rattle.sno_statement.specs.Abstraction.{statement_of}
-use Rattle.sno_syntax.specs.Refusals.{label_of, with_label}
-use Rattle.sno_syntax.specs.Programs.{SpellFrom}
+use Rattle.sno_syntax.specs.{Refusals.{label_of, with_label}, Programs.{SpellFrom}}
 use Rattle.sno_syntax.proofs.Spelled.{refusal_more, labels_more, spelled_more, last_more, spelled_all}
 use Rattle.sno_syntax.proofs.reading.read_statements.Goals as goal
 

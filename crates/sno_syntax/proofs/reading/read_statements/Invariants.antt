@@ -1,9 +1,7 @@
 use Rattle.std.proofs.Common.{◌≡◌, List, [], ◌++◌, drop}
 use Rattle.std.specs.Prelude.{map}
-use Rattle.sno_statement.specs.Statements.{Statement}
-use Rattle.sno_statement.specs.Abstraction.{statement_of}
-use Rattle.sno_syntax.specs.Refusals.{statements_refusal, labels_from}
-use Rattle.sno_syntax.specs.Programs.{SpellFrom}
+use Rattle.sno_statement.specs.{Statements.{Statement}, Abstraction.{statement_of}}
+use Rattle.sno_syntax.specs.{Refusals.{statements_refusal, labels_from}, Programs.{SpellFrom}}
 use Rattle.sno_syntax.proofs.reading.read_statements.Given as goal
 
 -- the texts that are left have the whole's first refusal and lead to its labels; and whatever they spell, with what was

@@ -1,9 +1,7 @@
 -- The chain cuts the line at its blanks and keeps the pieces that are not empty.
 use Rattle.std.proofs.Common.{rules, tests}
-use Rattle.std.proofs.lemmas.Iterator.Consumers.{map_from_collect, YieldsList-from_filter}
-use Rattle.std.proofs.lemmas.Iterator.Splits.{YieldsList-from_slice_split}
-use Rattle.mon_text.specs.Characters.{is_blank}
-use Rattle.mon_text.specs.Lines.{is_nonempty}
+use Rattle.std.proofs.lemmas.Iterator.{Consumers.{map_from_collect, YieldsList-from_filter}, Splits.{YieldsList-from_slice_split}}
+use Rattle.mon_text.specs.{Characters.{is_blank}, Lines.{is_nonempty}}
 use Rattle.sno_syntax.proofs.start.words.Goals as goal
 
 pub returns : goal.returns

@@ -1,10 +1,8 @@
 use Rattle.std.proofs.Common.{rules, Result, sym, subst}
 use Rattle.sno_cards.specs.declared.refusal.SyntaxError.{SyntaxError}
 use Rattle.sno_lexer.specs.Listed.{TokenList}
-use Rattle.sno_statement.specs.Abstraction.{statement_of}
-use Rattle.sno_statement.proofs.Leftmost.{is_found}
-use Rattle.sno_syntax.specs.inner.Tokens.{AreTokensOf}
-use Rattle.sno_syntax.proofs.Behind.{text_spells}
+use Rattle.sno_statement.{specs.Abstraction.{statement_of}, proofs.Leftmost.{is_found}}
+use Rattle.sno_syntax.{specs.inner.Tokens.{AreTokensOf}, proofs.Behind.{text_spells}}
 use Rattle.sno_syntax.proofs.statement.read_body.Goals as goal
 
 pub returns-in-Ok-clause-spelled : goal.returns-in-Ok-clause-spelled

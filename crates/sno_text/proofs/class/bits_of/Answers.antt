@@ -1,7 +1,6 @@
 -- One character more is told by its bit.
 use Rattle.std.proofs.Common.{◌+◌, ◌*◌, ◌%◌, ◌^◌, take, get_or, set, sym, subst, bit_or}
-use Rattle.sno_text.specs.inner.Classes.{Tells}
-use Rattle.sno_text.proofs.Classes.{told_more}
+use Rattle.sno_text.{specs.inner.Classes.{Tells}, proofs.Classes.{told_more}}
 use Rattle.sno_text.proofs.class.bits_of.Goals as goal
 
 pub loop-character-preserved : goal.loop-character-preserved

@@ -1,7 +1,6 @@
 -- The word of no character is 1, and each character before it makes one more word.
 use Rattle.std.proofs.Common.{◌≡◌, ◌≤◌, ◌-◌, ◌∙◌, drop, refl, sym, ap, arith}
-use Rattle.sno_text.specs.inner.Words.{told}
-use Rattle.sno_text.proofs.Words.{told_none, told_more}
+use Rattle.sno_text.{specs.inner.Words.{told}, proofs.Words.{told_none, told_more}}
 use Rattle.sno_text.proofs.named.word_of.Goals as goal
 
 pub returns-then-text-gt-MOST_TOLD : goal.returns-then-text-gt-MOST_TOLD

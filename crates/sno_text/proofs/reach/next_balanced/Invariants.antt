@@ -1,8 +1,6 @@
 use Rattle.std.proofs.Common.{length, ◌-◌, ◌≡◌, ◌≤◌}
 use Rattle.std.specs.Prelude.{drop}
-use Rattle.sno_text.specs.Balance.{balanced_ends}
-use Rattle.sno_text.specs.inner.Reaching.{closes}
-use Rattle.sno_text.proofs.Balance.{ends_where}
+use Rattle.sno_text.{specs.Balance.{balanced_ends}, specs.inner.Reaching.{closes}, proofs.Balance.{ends_where}}
 use Rattle.sno_text.proofs.reach.next_balanced.Given as goal
 
 abbrev pub invariant-loop-at : goal.invariant-loop-at

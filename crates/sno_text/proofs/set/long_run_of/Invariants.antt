@@ -1,6 +1,5 @@
 use Rattle.std.proofs.Common.{length, ◌-◌, ◌≡◌, ◌≤◌, ◌+◌}
-use Rattle.std.specs.Prelude.{drop}
-use Rattle.std.specs.List.{prefix_len}
+use Rattle.std.specs.{Prelude.{drop}, List.{prefix_len}}
 use Rattle.sno_text.specs.Sets.{is_one_of}
 use Rattle.sno_text.proofs.set.long_run_of.Given as goal
 

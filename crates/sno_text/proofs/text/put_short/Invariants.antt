@@ -1,7 +1,6 @@
 -- The text stands so many times behind the others, and there is room for it as many times more.
 use Rattle.std.proofs.Common.{◌≡◌, ◌+◌, ◌*◌, ◌++◌, length}
-use Rattle.std.specs.Prelude.{vec_len, vec_capacity}
-use Rattle.std.specs.List.{repeat}
+use Rattle.std.specs.{Prelude.{vec_len, vec_capacity}, List.{repeat}}
 use Rattle.sno_text.proofs.text.put_short.Given as goal
 
 abbrev pub invariant-loop : goal.invariant-loop

@@ -1,7 +1,6 @@
 -- A power with a large exponent.
 use Rattle.std.proofs.Common.{ap, sym, ◌∙◌, w64}
-use Rattle.std.specs.Prelude.{Some, unsigned_abs, pos, int_le}
-use Rattle.std.proofs.lemmas.Int.{to_z-of_z}
+use Rattle.std.{specs.Prelude.{Some, unsigned_abs, pos, int_le}, proofs.lemmas.Int.{to_z-of_z}}
 use Rattle.sno_value.proofs.Powers.{own_power, even_power, odd_power, no_power}
 use Rattle.sno_value.proofs.calculating.raised_high.Goals as goal
 

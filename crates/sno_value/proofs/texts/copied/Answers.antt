@@ -1,9 +1,7 @@
 -- So many of a text are as long as the number says.
 use Rattle.std.proofs.Common.{ℕ, List, sym, ap, ◌∙◌}
 use Rattle.mon_text.proofs.Cutting.{on_err}
-use Rattle.sno_value.specs.declared.value.Value.TheVariants.{Text}
-use Rattle.sno_value.specs.declared.outcome.Outcome.TheVariants.{Gives}
-use Rattle.sno_value.specs.Memory.{is_given}
+use Rattle.sno_value.specs.{declared.value.Value.TheVariants.{Text}, declared.outcome.Outcome.TheVariants.{Gives}, Memory.{is_given}}
 use Rattle.sno_value.proofs.Strings.{too_many, not_too_many}
 use Rattle.sno_value.proofs.texts.copied.Goals as goal
 

@@ -3,9 +3,7 @@ use Rattle.std.proofs.Common.{rules, arith, ◌≡◌, ◌<◌, ◌∙◌, sym, 
 use Rattle.std.proofs.lemmas.List.{get_or_read}
 use Rattle.sno_value.specs.Values.{null}
 use Rattle.sno_declarations.specs.Prototypes.{names_of}
-use Rattle.sno_variables.specs.Variables.{is_named}
-use Rattle.sno_variables.specs.inner.Exchanging.{after, before}
-use Rattle.sno_variables.proofs.Exchanged.{one_step, still_as_many}
+use Rattle.sno_variables.{specs.Variables.{is_named}, specs.inner.Exchanging.{after, before}, proofs.Exchanged.{one_step, still_as_many}}
 use Rattle.sno_variables.proofs.exchanging.exchange_known.Goals as goal
 
 pub loop-at-preserved : goal.loop-at-preserved

@@ -1,8 +1,6 @@
 use Rattle.std.proofs.Common.{◌≡◌, ◌≤◌, ◌++◌, ◌-◌, length, take, drop}
 use Rattle.sno_declarations.specs.Prototypes.{names_of}
-use Rattle.sno_variables.specs.Bindings.{paired, assigned}
-use Rattle.sno_variables.specs.inner.Places.{AreDistinct}
-use Rattle.sno_variables.specs.inner.Exchanging.{taken_by, undone}
+use Rattle.sno_variables.specs.{Bindings.{paired, assigned}, inner.Places.{AreDistinct}, inner.Exchanging.{taken_by, undone}}
 use Rattle.sno_variables.proofs.exchanging.exchange_known.Given as goal
 
 abbrev pub invariant-loop-at : goal.invariant-loop-at

@@ -3,8 +3,7 @@ use Rattle.std.proofs.Common.{rules, arith, ◌≡◌, ◌<◌, ◌+◌, ◌-◌
 use Rattle.std.proofs.lemmas.List.{get_or_read}
 use Rattle.sno_value.specs.Values.{null}
 use Rattle.sno_declarations.specs.Prototypes.{names_of}
-use Rattle.sno_variables.specs.inner.Exchanging.{after, before, undone}
-use Rattle.sno_variables.proofs.Exchanged.{one_step_back, still_as_many}
+use Rattle.sno_variables.{specs.inner.Exchanging.{after, before, undone}, proofs.Exchanged.{one_step_back, still_as_many}}
 use Rattle.sno_variables.proofs.exchanging.take_back.Goals as goal
 
 pub loop-left-preserved : goal.loop-left-preserved

@@ -1,7 +1,6 @@
 use Rattle.std.proofs.Common.{◌≡◌, ◌≤◌, length}
 use Rattle.sno_declarations.specs.Prototypes.{names_of}
-use Rattle.sno_variables.specs.inner.Places.{AreDistinct}
-use Rattle.sno_variables.specs.inner.Exchanging.{undone}
+use Rattle.sno_variables.specs.inner.{Places.{AreDistinct}, Exchanging.{undone}}
 use Rattle.sno_variables.proofs.exchanging.take_back.Given as goal
 
 abbrev pub invariant-loop-left : goal.invariant-loop-left

@@ -1,7 +1,6 @@
 -- One after the other.
 use Rattle.std.proofs.Common.{◌∙◌, ap}
-use Rattle.sno_variables.specs.First.{with_patterns}
-use Rattle.sno_variables.proofs.Steps.{first_by}
+use Rattle.sno_variables.{specs.First.{with_patterns}, proofs.Steps.{first_by}}
 use Rattle.sno_variables.proofs.first.first_variables.Goals as goal
 
 pub returns : goal.returns

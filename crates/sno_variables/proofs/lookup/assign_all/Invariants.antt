@@ -1,8 +1,7 @@
 -- What is left to be assigned, and that there is room for it.
 use Rattle.std.proofs.Common.{◌≡◌, ◌≤◌, length}
 use Rattle.indexmap.specs.IndexMap.{spare}
-use Rattle.sno_variables.specs.Bindings.{assigned}
-use Rattle.sno_variables.specs.inner.Places.{AreDistinct}
+use Rattle.sno_variables.specs.{Bindings.{assigned}, inner.Places.{AreDistinct}}
 use Rattle.sno_variables.proofs.lookup.assign_all.Given as goal
 
 abbrev pub invariant-loop-name : goal.invariant-loop-name

@@ -1,8 +1,7 @@
 -- A word that does not stand out is passed over.
 use Rattle.std.proofs.Common.{◌≡◌, ◌<◌, false, [], map, length, get_or, sym, ap, ◌∙◌, arith}
 use Rattle.std.proofs.lemmas.List.{length-map, get_or-map}
-use Rattle.snomon_library.specs.inner.Asking.{stands_out}
-use Rattle.snomon_library.proofs.Before.{passes}
+use Rattle.snomon_library.{specs.inner.Asking.{stands_out}, proofs.Before.{passes}}
 use Rattle.snomon_library.proofs.asking.others.Goals as goal
 
 pub loop-at-preserved : goal.loop-at-preserved

@@ -1,8 +1,7 @@
 -- What is asked for is what the words from here on ask for, behind those before.
 use Rattle.std.proofs.Common.{◌≡◌, ◌<◌, map, length, take, drop}
 use Rattle.std.specs.Option.{option_map}
-use Rattle.snomon_library.specs.Asking.{audit_of, asked_in}
-use Rattle.snomon_library.specs.inner.Asking.{onto}
+use Rattle.snomon_library.specs.{Asking.{audit_of, asked_in}, inner.Asking.{onto}}
 use Rattle.snomon_library.proofs.asking.others.Given as goal
 
 abbrev pub invariant-loop-at : goal.invariant-loop-at

@@ -1,11 +1,8 @@
 -- The words up to the one that stands out, that one, and what follows.
 use Rattle.std.proofs.Common.{◌≡◌, ◌<◌, ◌++◌, false, true, [], Some, None, length, map, take, drop, get_or, arith, ap, sym, ◌∙◌, subst}
-use Rattle.std.specs.Option.{option_map}
-use Rattle.std.specs.String.{string_bytes}
-use Rattle.std.proofs.lemmas.List.{get_or-map, get_or_read, take-append-drop}
+use Rattle.std.{specs.Option.{option_map}, specs.String.{string_bytes}, proofs.lemmas.List.{get_or-map, get_or_read, take-append-drop}}
 use Rattle.clap.proofs.TakesLemmas.{passed_up}
-use Rattle.snomon_library.specs.Asking.{asked_in, asked_next, audit_of, file_in, is_end}
-use Rattle.snomon_library.specs.inner.Asking.{onto, stands_out}
+use Rattle.snomon_library.specs.{Asking.{asked_in, asked_next, audit_of, file_in, is_end}, inner.Asking.{onto, stands_out}}
 use Rattle.snomon_library.proofs.Before.{file_named, from_here, left_before, left_behind, next_none, next_taken, or_none, parts}
 use Rattle.snomon_library.proofs.asking.take_audit.Goals as goal
 

@@ -1,8 +1,7 @@
 -- The next word names the file.
 use Rattle.std.proofs.Common.{◌<◌, length, map, arith, ap, sym, ◌∙◌}
 use Rattle.std.proofs.lemmas.Result.{IfErr-weaker, IfOk-weaker}
-use Rattle.snomon_library.specs.Asking.{is_file}
-use Rattle.snomon_library.proofs.Before.{from_here, left_before, left_behind, next_named, next_refused, or_none}
+use Rattle.snomon_library.{specs.Asking.{is_file}, proofs.Before.{from_here, left_before, left_behind, next_named, next_refused, or_none}}
 use Rattle.snomon_library.proofs.asking.take_next.Goals as goal
 
 pub returns-clause-taken : goal.returns-clause-taken

@@ -1,6 +1,5 @@
 -- What the file tells at first is told, and somebody listens where there is one.
-use Rattle.std.specs.Prelude.{is_some}
-use Rattle.std.specs.Option.{option_and_then}
+use Rattle.std.specs.{Prelude.{is_some}, Option.{option_and_then}}
 use Rattle.snomon_library.proofs.audited_run.run_audited.Given as goal
 
 abbrev pub ghosts-run_into-T-Telling : goal.ghosts-run_into-T-Telling

@@ -1,10 +1,8 @@
 -- The file has what was put to it.
 use Rattle.std.proofs.Common.{rules, inl, ap, sym, ◌∙◌}
 use Rattle.std.specs.Option.{option_and_then}
-use Rattle.mon_device.specs.Putting.{Standing}
-use Rattle.mon_device.specs.Telling.{where_told}
-use Rattle.snomon_library.specs.declared.heeding.PerhapsFile.{PerhapsFile}
-use Rattle.snomon_library.proofs.Kept.{audits, heard, heard_is, lent_still}
+use Rattle.mon_device.specs.{Putting.{Standing}, Telling.{where_told}}
+use Rattle.snomon_library.{specs.declared.heeding.PerhapsFile.{PerhapsFile}, proofs.Kept.{audits, heard, heard_is, lent_still}}
 use Rattle.snomon_library.proofs.audited_run.run_into.Goals as goal
 
 pub returns-clause-audited : goal.returns-clause-audited

@@ -1,11 +1,7 @@
 use Rattle.std.proofs.Common.{rules, ap, ap₂, true, ◌≡◌, ◌∙◌}
-use Rattle.std.specs.Prelude.{None, Some, pos}
-use Rattle.std.proofs.lemmas.Result.{IfOk-weaker}
-use Rattle.clap.specs.Words.{App, app_of, new_app, rule_of, with_rule}
-use Rattle.clap.specs.Simple.{on_top}
-use Rattle.clap.specs.declared.builder.value_parser.ValueParser.{ValueParser}
+use Rattle.std.{specs.Prelude.{None, Some, pos, codes}, proofs.lemmas.Result.{IfOk-weaker}}
+use Rattle.clap.specs.{Words.{App, app_of, new_app, rule_of, with_rule}, Simple.{on_top}, declared.builder.value_parser.ValueParser.{ValueParser}}
 use Rattle.clap.specs.declared.builder.value_parser.ValueParser.TheVariants as vp
-use Rattle.std.specs.Prelude.{codes}
 use Rattle.snomon_library.specs.CommandLine.{check_rule, slots_rule}
 use Rattle.snomon_library.proofs.options.command.Goals as goal
 

@@ -1,6 +1,5 @@
 use Rattle.std.proofs.Common.{map}
-use Rattle.clap.specs.Words.{app_of}
-use Rattle.clap.proofs.TakesLemmas.{passed_up}
+use Rattle.clap.{specs.Words.{app_of}, proofs.TakesLemmas.{passed_up}}
 use Rattle.snomon_library.proofs.Matched.{given, is_simple_command, refused}
 use Rattle.snomon_library.proofs.options.read_options.Goals as goal
 

@@ -1,8 +1,7 @@
 -- Words are refused for what is left of them.
 use Rattle.std.proofs.Common.{map, subst, sym}
 use Rattle.clap.proofs.TakesLemmas.{passed_up}
-use Rattle.snomon_library.specs.CommandLine.{Gives}
-use Rattle.snomon_library.proofs.Before.{none_given, or_none}
+use Rattle.snomon_library.{specs.CommandLine.{Gives}, proofs.Before.{none_given, or_none}}
 use Rattle.snomon_library.proofs.run.read_words.Goals as goal
 
 pub returns-in_err-options-clause-refused : goal.returns-in_err-options-clause-refused

@@ -1,11 +1,8 @@
 use Rattle.std.proofs.Common.{arith, [], inl, append-nil, refl, true≢false, sym, ap, subst, ◌∙◌, ◌+◌, ◌≡◌, ◌≤◌, ◌<◌, Err, List, ℕ, length, drop}
-use Rattle.std.proofs.lemmas.List.{take_rest, length-drop}
-use Rattle.std.proofs.lemmas.Result.{err_from_is_err_and}
+use Rattle.std.proofs.lemmas.{List.{take_rest, length-drop}, Result.{err_from_is_err_and}}
 use Rattle.mon_text.proofs.Cutting.{nothing_kept}
-use Rattle.deck_driver.specs.Feeds.{is_reading}
-use Rattle.deck_driver.specs.inner.Pieces.{LeavesNothing}
-use Rattle.deck_driver.proofs.Beginnings.{begins_further}
-use Rattle.deck_driver.proofs.LineEnds.{line_taken, none_left}
+use Rattle.deck_driver.specs.{Feeds.{is_reading}, inner.Pieces.{LeavesNothing}}
+use Rattle.deck_driver.proofs.{Beginnings.{begins_further}, LineEnds.{line_taken, none_left}}
 use Rattle.deck_driver.proofs.Pieces.{took_none, took_more, took_all, begun_so_far, begun_more, took_answer, took_stopped}
 use Rattle.deck_driver.proofs.feed.DeckFeed.feed.Goals as goal
 

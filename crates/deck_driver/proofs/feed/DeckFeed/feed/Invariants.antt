@@ -1,7 +1,6 @@
 -- What was told so far, and the rest of the piece, tell what all of the piece tells.
 use Rattle.std.proofs.Common.{◌≡◌, ◌≤◌, ◌+◌, length}
-use Rattle.deck_driver.specs.Feeds.{Begins, EndsLine, IsReadBack}
-use Rattle.deck_driver.specs.inner.Pieces.{TookUpTo, LeavesNothing}
+use Rattle.deck_driver.specs.{Feeds.{Begins, EndsLine, IsReadBack}, inner.Pieces.{TookUpTo, LeavesNothing}}
 use Rattle.deck_driver.proofs.feed.DeckFeed.feed.Given as goal
 
 abbrev pub invariant-lines : goal.invariant-lines

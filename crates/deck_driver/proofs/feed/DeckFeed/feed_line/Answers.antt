@@ -1,19 +1,12 @@
 use Rattle.std.proofs.Common.{refl, true≢false, inl, inr, sym, ap, subst, arith, [], ◌∷◌, ◌++◌, ◌∙◌, Option, List, ℕ, ◌+◌, take, None}
-use Rattle.std.specs.Option.{option_map}
-use Rattle.std.specs.Str.Lines.{lines}
-use Rattle.mon_text.specs.declared.ended_line.EndedLine.{EndedLine}
-use Rattle.mon_text.specs.Feeding.{text_of, has_no_end, Takes}
-use Rattle.deck_driver.specs.declared.options.Options.{Options}
-use Rattle.deck_driver.specs.declared.section.DeckState.{DeckState}
-use Rattle.mon_device.proofs.Putting.{puts_nothing}
-use Rattle.deck_driver.specs.Feeds.{outcome, behind, is_reading, stopped_by}
-use Rattle.deck_driver.specs.Audits.{told_from}
-use Rattle.deck_driver.specs.Abstraction.{told, audit_told}
-use Rattle.deck_driver.specs.inner.Lines.{TookLine, LineBreaks}
-use Rattle.deck_driver.proofs.Beginnings.{same_begins, only_appends, nothing_printed}
-use Rattle.deck_driver.proofs.Telling.{told_none, audit_none, told_some, audit_some, audit_begins, audit_refused, told_refused, error_of, stop_told, stop_silent}
+use Rattle.std.specs.{Option.{option_map}, Str.Lines.{lines}}
+use Rattle.mon_text.specs.{declared.ended_line.EndedLine.{EndedLine}, Feeding.{text_of, has_no_end, Takes}}
+use Rattle.deck_driver.specs.{declared.options.Options.{Options}, declared.section.DeckState.{DeckState}, Feeds.{outcome, behind, is_reading, stopped_by}}
+use Rattle.deck_driver.specs.{Audits.{told_from}, Abstraction.{told, audit_told}, inner.Lines.{TookLine, LineBreaks}}
+use Rattle.deck_driver.proofs.{Beginnings.{same_begins, only_appends, nothing_printed}, Pieces.{begun_told, begun_by, took_stopped, refused_silent}}
 use Rattle.deck_driver.proofs.Parts.{all_taken, takes_part, nothing_behind, parted_at, open_where, ended_where, one_at_most, none_at_all, told_late, none_late}
-use Rattle.deck_driver.proofs.Pieces.{begun_told, begun_by, took_stopped, refused_silent}
+use Rattle.mon_device.proofs.Putting.{puts_nothing}
+use Rattle.deck_driver.proofs.Telling.{told_none, audit_none, told_some, audit_some, audit_begins, audit_refused, told_refused, error_of, stop_told, stop_silent}
 use Rattle.deck_driver.proofs.feed.DeckFeed.feed_line.Goals as goal
 
 pub returns-else-contains-clause-told : goal.returns-else-contains-clause-told

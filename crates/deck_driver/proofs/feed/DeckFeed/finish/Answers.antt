@@ -1,10 +1,7 @@
 use Rattle.std.proofs.Common.{◌+◌, ◌++◌, [], List, ℕ, sym, ap, subst, ◌∙◌, append-nil}
 use Rattle.std.specs.Str.Lines.{lines}
-use Rattle.deck_driver.specs.Feeds.{Bad}
-use Rattle.deck_driver.specs.Abstraction.{last_lines}
-use Rattle.deck_driver.specs.inner.Lines.{Ended, EndBegun}
-use Rattle.deck_driver.proofs.Telling.{comes_so}
-use Rattle.deck_driver.proofs.Ending.{began, was_refused, error_so}
+use Rattle.deck_driver.specs.{Feeds.{Bad}, Abstraction.{last_lines}, inner.Lines.{Ended, EndBegun}}
+use Rattle.deck_driver.proofs.{Telling.{comes_so}, Ending.{began, was_refused, error_so}}
 use Rattle.deck_driver.proofs.feed.DeckFeed.finish.Goals as goal
 
 pub returns-clause-begun : goal.returns-clause-begun

@@ -1,7 +1,6 @@
 use Rattle.std.proofs.Common.{ap, ◌∙◌}
-use Rattle.deck_driver.specs.declared.section.Section.{Section}
+use Rattle.deck_driver.{specs.declared.section.Section.{Section}, proofs.Taking.{front_stays, front_over}}
 use Rattle.deck_driver.specs.declared.section.DeckState.TheVariants as state
-use Rattle.deck_driver.proofs.Taking.{front_stays, front_over}
 use Rattle.deck_driver.proofs.section.DeckState.take_front_line.Goals as goal
 
 pub returns-in_ok-begin_stream-in-Front-clause-told : goal.returns-in_ok-begin_stream-in-Front-clause-told

@@ -1,10 +1,9 @@
 use Rattle.std.proofs.Common.{refl, ap, ◌∙◌}
 use Rattle.deck_lines.specs.declared.command.Command.TheVariants.{List as Listing}
 use Rattle.deck_reader.specs.declared.stream_reader.Event.TheVariants.{Asks}
-use Rattle.deck_driver.specs.declared.section.Section.{Section}
+use Rattle.deck_driver.{specs.declared.section.Section.{Section}, proofs.Taking.{untaken, not_read, errs_silently, card_breaks, breaks_at, on_err}}
 use Rattle.deck_driver.specs.declared.section.Section.TheVariants as section
 use Rattle.deck_driver.specs.declared.section.DeckState.TheVariants as state
-use Rattle.deck_driver.proofs.Taking.{untaken, not_read, errs_silently, card_breaks, breaks_at, on_err}
 use Rattle.deck_driver.proofs.section.DeckState.take_other.Goals as goal
 
 pub returns-in_err-take_front_line-in-Front-clause-broken : goal.returns-in_err-take_front_line-in-Front-clause-broken

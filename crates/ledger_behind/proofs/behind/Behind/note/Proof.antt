@@ -1,41 +1,22 @@
 -- The body is empty. The borrow is opened, and closed at another ghost value.
 use Rattle.std.proofs.Common.{ℕ, List, [], ◌∷◌, ◌++◌, refl, MutBor}
 use seplogic.Ra.Ura.{Ura}
-use mir.Syntax.{named}
-use mir.Val.{Val, vunit, vptr}
-use base.Logic.{SProp, ent, sep, emp, via, fst∗, id⊢}
-use base.Fml.{GName, Lft, Share, ftrue, flft, fobs, fbor}
-use prog.Memory.{Memory}
-use prog.Routine.{Routine}
-use prog.Wp.{Calls, Loops, WpFn, Tables}
-use types.Logic.{Logic}
-use contract.Monad.{Fun}
-use contract.Running.{tables, tables_of}
-use types.Kit.{‵, ◌⊛◌, ◌$◌, ◌∵◌, !, qed, by, move, keep, drop, use1, split, join, fsplit, fsplit3, fjoin, fjoin3, feq_i, suffices, frame, done}
-use types.Run.{unit_lit, of_opd, returns, enter}
-use types.SemTy.{Body}
-use types.ByLocal.{alloc_all, pass_all, free_all, look_at, sets}
+use mir.{Syntax.{named}, Val.{Val, vunit, vptr}}
+use base.{Logic.{SProp, ent, sep, emp, via, fst∗, id⊢}, Fml.{GName, Lft, Share, ftrue, flft, fobs, fbor}}
+use prog.{Memory.{Memory}, Routine.{Routine}, Wp.{Calls, Loops, WpFn, Tables}}
+use types.{Logic.{Logic}, Kit.{‵, ◌⊛◌, ◌$◌, ◌∵◌, !, qed, by, move, keep, drop, use1, split, join, fsplit, fsplit3, fjoin, fjoin3, feq_i, suffices, frame, done}}
+use types.{Run.{unit_lit, of_opd, returns, enter}, SemTy.{Body}, ByLocal.{alloc_all, pass_all, free_all, look_at, sets}}
+use contract.{Monad.{Fun}, Running.{tables, tables_of}}
 use sound.WpLaws.{WpFn-mono}
-use denote.RattleType.{owns}
-use denote.Memory.{mem}
-use denote.Ref.{MutRef, ShrRef, mut_vals, mut_Tells, shr_vals, shr_Tells}
-use denote.Signature.{plain}
-use denote.Steps.{opens, closes}
-use denote.Triple.Entry.{on_entry}
-use denote.Triple.Spec.{Meets, triple_of}
-use denote.Triple.Table.{entered}
-use denote.Triple.Walked.{says, Stays, stay_ref, walk_of, AllGo, Goes-ref, Walks, ends_at, walked, walk_Meets}
-use Rattle.ledger_behind.specs.declared.behind.Behind.{Behind}
+use denote.{RattleType.{owns}, Memory.{mem}, Ref.{MutRef, ShrRef, mut_vals, mut_Tells, shr_vals, shr_Tells, Bor}, Signature.{plain}, Steps.{opens, closes}}
+use denote.{Triple.Entry.{on_entry}, Triple.Spec.{Meets, triple_of}, Triple.Table.{entered}, Triple.Walked.{Goes-none_slice}, Builtin.{u8}, Exit.{yes}}
+use denote.Triple.Walked.{says, Stays, stay_ref, walk_of, AllGo, Goes-ref, Walks, ends_at, walked, walk_Meets, stay_none_ref, Goes-none_ref, stay_none_slice}
+use denote.Slice.{ShrSlice, slice_val, shr_slice_vals, shr_slice_Tells}
+use Rattle.ledger_behind.specs.{declared.behind.Behind.{Behind}, contracts.behind.Behind.note.Key.{name as #it}}
 use Rattle.ledger_behind.specs.contracts.behind.Behind as T
-use Rattle.ledger_behind.specs.contracts.behind.Behind.note.Key.{name as #it}
 use Rattle.ledger_behind.specs.contracts.behind.Behind.note as it
 use Rattle.ledger_behind.proofs.behind.Behind.note.Statement as stated
 use Rattle.ledger_behind.proofs.behind.Behind.note.Code as code
-use denote.Ref.{Bor}
-use denote.Builtin.{u8}
-use denote.Exit.{yes}
-use denote.Slice.{ShrSlice, slice_val, shr_slice_vals, shr_slice_Tells}
-use denote.Triple.Walked.{stay_none_ref, Goes-none_ref, stay_none_slice, Goes-none_slice}
 use Rattle.std.proofs.Common.{◌<◌, ◌^◌, length}
 
 abbrev Arg : Type 0

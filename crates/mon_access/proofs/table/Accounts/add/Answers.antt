@@ -1,9 +1,7 @@
 use Rattle.std.proofs.Common.{rules, ◌≡◌, ◌∙◌, ◌++◌, ◌∷◌, [], None, ap}
 use Rattle.std.specs.Prelude.{bytes_eq}
 use Rattle.indexmap.specs.IndexMap.{insert_entry}
-use Rattle.mon_access.specs.Accounts.{find_account}
-use Rattle.mon_access.specs.inner.Layout.{accounts_of}
-use Rattle.mon_access.proofs.Tables.{entries-new, accounts_of-push, IsTable-push}
+use Rattle.mon_access.{specs.Accounts.{find_account}, specs.inner.Layout.{accounts_of}, proofs.Tables.{entries-new, accounts_of-push, IsTable-push}}
 use Rattle.mon_access.proofs.table.Accounts.add.Goals as goal
 
 pub invariant_of-self-2 : goal.invariant_of-self-2

@@ -1,9 +1,6 @@
 use Rattle.std.proofs.Common.{List, ◌∙◌, ap, sym, subst}
 use Rattle.std.specs.Prelude.{All}
-use Rattle.mon_acl.specs.declared.entries.Entry.{Entry}
-use Rattle.mon_acl.specs.Entries.{IsEntry}
-use Rattle.mon_acl.specs.inner.Keys.{keys_of}
-use Rattle.mon_acl.proofs.Keyed.{few_keys}
+use Rattle.mon_acl.{specs.declared.entries.Entry.{Entry}, specs.Entries.{IsEntry}, specs.inner.Keys.{keys_of}, proofs.Keyed.{few_keys}}
 use Rattle.mon_acl.proofs.list.Acl.new.Goals as goal
 
 pub keys_of-requires : goal.keys_of-requires

@@ -1,9 +1,7 @@
 -- The text of one set more, until none is left.
 use Rattle.std.proofs.Common.{◌≡◌, rules, ap, sym, [], ◌∷◌}
 use Rattle.mon_device.proofs.Putting.{puts_nothing, puts_same}
-use Rattle.mon_catalogue.specs.Sets.{Sets}
-use Rattle.mon_catalogue.specs.Text.{catalogue_text}
-use Rattle.mon_catalogue.proofs.Putting.{sets_put}
+use Rattle.mon_catalogue.{specs.Sets.{Sets}, specs.Text.{catalogue_text}, proofs.Putting.{sets_put}}
 use Rattle.mon_catalogue.proofs.catalogue.Catalogue.print.Goals as goal
 
 pub loop-name-init : goal.loop-name-init

@@ -1,7 +1,6 @@
 -- What every catalogue holds to is what its text is read back by.
 use Rattle.std.proofs.Common.{rules}
-use Rattle.mon_catalogue.specs.Stored.{IsStored, ArePrintable}
-use Rattle.mon_catalogue.proofs.Back.{catalogue_reads_back, bytes_read_back}
+use Rattle.mon_catalogue.{specs.Stored.{IsStored, ArePrintable}, proofs.Back.{catalogue_reads_back, bytes_read_back}}
 use Rattle.mon_catalogue.proofs.catalogue.Catalogue.reads_back.Goals as goal
 
 pub returns-clause-reads_back : goal.returns-clause-reads_back

@@ -1,7 +1,6 @@
 -- Once the sets that are left are stored, all are.
 use Rattle.std.specs.List.{AllByRecursion}
-use Rattle.mon_catalogue.specs.Stored.{IsStoredSet}
-use Rattle.mon_catalogue.specs.inner.Parts.{HasPrintableRecords}
+use Rattle.mon_catalogue.specs.{Stored.{IsStoredSet}, inner.Parts.{HasPrintableRecords}}
 use Rattle.mon_catalogue.proofs.catalogue.Catalogue.reads_back.Given as goal
 
 abbrev pub invariant-loop-name : goal.invariant-loop-name

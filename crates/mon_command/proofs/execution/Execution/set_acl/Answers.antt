@@ -1,7 +1,6 @@
 use Rattle.std.proofs.Common.{◌≡◌}
-use Rattle.mon_guard.specs.Owning.{acl_set}
+use Rattle.mon_guard.{specs.Owning.{acl_set}, proofs.Owned.{owners_set_lists}}
 use Rattle.mon_guard.specs.declared.answer.AclAnswer.TheVariants as acl
-use Rattle.mon_guard.proofs.Owned.{owners_set_lists}
 use Rattle.mon_command.proofs.Refused.{refused}
 use Rattle.mon_command.proofs.execution.Execution.set_acl.Goals as goal
 

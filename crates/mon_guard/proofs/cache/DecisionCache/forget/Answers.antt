@@ -1,8 +1,7 @@
 use Rattle.std.proofs.Common.{rules, ◌∙◌, ap}
 use Rattle.std.specs.Map.{values_of}
 use Rattle.indexmap.proofs.CallerLemmas.{filter-RetainsPairs}
-use Rattle.mon_guard.specs.Cache.{is_beside, cache_beside}
-use Rattle.mon_guard.proofs.Fitting.{stored_beside}
+use Rattle.mon_guard.{specs.Cache.{is_beside, cache_beside}, proofs.Fitting.{stored_beside}}
 use Rattle.mon_guard.proofs.cache.DecisionCache.forget.Goals as goal
 
 pub returns : goal.returns

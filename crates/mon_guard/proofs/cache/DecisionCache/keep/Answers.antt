@@ -1,7 +1,5 @@
 use Rattle.std.proofs.Common.{rules, ◌≡◌}
-use Rattle.mon_guard.specs.declared.cache.CachedDecision.{CachedDecision}
-use Rattle.mon_guard.specs.inner.Keeping.{row_on}
-use Rattle.mon_guard.proofs.Fitting.{stored_one_more}
+use Rattle.mon_guard.{specs.declared.cache.CachedDecision.{CachedDecision}, specs.inner.Keeping.{row_on}, proofs.Fitting.{stored_one_more}}
 use Rattle.mon_guard.proofs.cache.DecisionCache.keep.Goals as goal
 
 pub returns-in-Ok : goal.returns-in-Ok

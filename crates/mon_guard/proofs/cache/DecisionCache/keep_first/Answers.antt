@@ -1,6 +1,5 @@
 use Rattle.std.proofs.Common.{◌∙◌, ap, sym, take}
-use Rattle.std.specs.Map.{values_of}
-use Rattle.std.proofs.lemmas.List.{take-map}
+use Rattle.std.{specs.Map.{values_of}, proofs.lemmas.List.{take-map}}
 use Rattle.mon_guard.proofs.cache.DecisionCache.keep_first.Goals as goal
 
 pub returns : goal.returns

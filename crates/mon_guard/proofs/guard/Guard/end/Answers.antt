@@ -1,11 +1,7 @@
 use Rattle.std.proofs.Common.{rules, ◌≡◌}
-use Rattle.mon_guard.specs.Acting.{End, left}
-use Rattle.mon_guard.specs.Cache.{CacheFits}
-use Rattle.mon_guard.specs.inner.Judging.{acted_by}
-use Rattle.mon_guard.proofs.Acting.{left_granted, left_denied}
-use Rattle.mon_guard.proofs.Fitting.{kept_left, left_changed}
+use Rattle.mon_guard.specs.{Acting.{End, left}, Cache.{CacheFits}, inner.Judging.{acted_by}}
+use Rattle.mon_guard.proofs.{Acting.{left_granted, left_denied}, Fitting.{kept_left, left_changed}, guard.Guard.end.Goals.{in-Granted, in-Denied}}
 use Rattle.mon_guard.proofs.guard.Guard.end.Goals as goal
-use Rattle.mon_guard.proofs.guard.Guard.end.Goals.{in-Granted, in-Denied}
 
 pub returns-clause-sets : goal.returns-clause-sets
 returns-clause-sets c =

@@ -1,11 +1,7 @@
 use Rattle.std.proofs.Common.{rules, ◌≡◌}
-use Rattle.mon_guard.specs.Acting.{Write, left}
-use Rattle.mon_guard.specs.Cache.{CacheFits}
-use Rattle.mon_guard.specs.inner.Judging.{acted_by}
-use Rattle.mon_guard.proofs.Acting.{left_granted, left_denied}
-use Rattle.mon_guard.proofs.Fitting.{kept_left, left_fits, left_changed}
+use Rattle.mon_guard.{specs.Acting.{Write, left}, specs.Cache.{CacheFits}, specs.inner.Judging.{acted_by}, proofs.Acting.{left_granted, left_denied}}
+use Rattle.mon_guard.proofs.{Fitting.{kept_left, left_fits, left_changed}, guard.Guard.write.Goals.{in-Granted+in_ok-answered-in-Granted, in-Denied}}
 use Rattle.mon_guard.proofs.guard.Guard.write.Goals as goal
-use Rattle.mon_guard.proofs.guard.Guard.write.Goals.{in-Granted+in_ok-answered-in-Granted, in-Denied}
 
 pub returns-in_err-answered-in-Granted-clause-fit : goal.returns-in_err-answered-in-Granted-clause-fit
 returns-in_err-answered-in-Granted-clause-fit c =

@@ -1,5 +1,4 @@
-use Rattle.mon_monitor.proofs.Common.{system_of, Drain, event_lines}
-use Rattle.mon_monitor.proofs.Playing.{closed, on_err, none_told, drained_breaks}
+use Rattle.mon_monitor.proofs.{Common.{system_of, Drain, event_lines}, Playing.{closed, on_err, none_told, drained_breaks}}
 use Rattle.mon_monitor.proofs.monitor.Monitor.close.Goals as goal
 
 pub returns-clause-closes : goal.returns-clause-closes

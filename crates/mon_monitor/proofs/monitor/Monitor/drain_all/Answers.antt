@@ -1,5 +1,4 @@
-use Rattle.mon_monitor.proofs.Common.{system_of, Drain, event_lines}
-use Rattle.mon_monitor.proofs.Playing.{on_ok, drained, on_err, none_told, drained_breaks}
+use Rattle.mon_monitor.proofs.{Common.{system_of, Drain, event_lines}, Playing.{on_ok, drained, on_err, none_told, drained_breaks}}
 use Rattle.mon_monitor.proofs.monitor.Monitor.drain_all.Goals as goal
 
 pub returns-clause-happens : goal.returns-clause-happens

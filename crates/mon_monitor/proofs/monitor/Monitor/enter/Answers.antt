@@ -1,5 +1,4 @@
-use Rattle.mon_monitor.proofs.Common.{system_of, Load, event_lines}
-use Rattle.mon_monitor.proofs.Playing.{on_ok, entered_behind, on_err, none_told, entering_breaks, entered_breaks}
+use Rattle.mon_monitor.proofs.{Common.{system_of, Load, event_lines}, Playing.{on_ok, entered_behind, on_err, none_told, entering_breaks, entered_breaks}}
 use Rattle.mon_monitor.proofs.monitor.Monitor.enter.Goals as goal
 
 pub returns-clause-happens : goal.returns-clause-happens

@@ -1,6 +1,5 @@
 use Rattle.std.proofs.Common.{sym, ◌∙◌}
-use Rattle.mon_monitor.proofs.Common.{system_of}
-use Rattle.mon_monitor.proofs.Playing.{unheard, listed_so}
+use Rattle.mon_monitor.proofs.{Common.{system_of}, Playing.{unheard, listed_so}}
 use Rattle.mon_monitor.proofs.monitor.Monitor.list_unaudited.Goals as goal
 
 pub returns-in-Ok-Some-clause-happens : goal.returns-in-Ok-Some-clause-happens

@@ -1,6 +1,5 @@
 use Rattle.std.proofs.Common.{refl}
-use Rattle.mon_monitor.proofs.Common.{system_of, Serve, event_lines}
-use Rattle.mon_monitor.proofs.Playing.{served, said_so, on_err, none_told}
+use Rattle.mon_monitor.proofs.{Common.{system_of, Serve, event_lines}, Playing.{served, said_so, on_err, none_told}}
 use Rattle.mon_monitor.proofs.monitor.Monitor.serve_command.Goals as goal
 
 pub returns-clause-happens : goal.returns-clause-happens

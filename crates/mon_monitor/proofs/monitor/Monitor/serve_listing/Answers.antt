@@ -1,7 +1,6 @@
 use Rattle.std.proofs.Common.{sym, subst}
-use Rattle.mon_monitor.proofs.Common.{Monitor, system_of, Serve, HappensUnmarked}
+use Rattle.mon_monitor.proofs.{Common.{Monitor, system_of, Serve, HappensUnmarked}, Playing.{served_behind}}
 use Rattle.deck_lines.specs.declared.command.Command.TheVariants.{List as Listing}
-use Rattle.mon_monitor.proofs.Playing.{served_behind}
 use Rattle.mon_monitor.proofs.monitor.Monitor.serve_listing.Goals as goal
 
 pub returns-then-done-clause-happens : goal.returns-then-done-clause-happens

@@ -1,7 +1,5 @@
 use Rattle.std.proofs.Common.{rules, refl, subst}
-use Rattle.mon_monitor.proofs.Common.{Sets, scheduler, slots_in, scheduler_in, TurnOr, system}
-use Rattle.mon_monitor.specs.Unseen.{TurnIsolated}
-use Rattle.mon_monitor.proofs.Unseen.{turn_isolated}
+use Rattle.mon_monitor.{proofs.Common.{Sets, scheduler, slots_in, scheduler_in, TurnOr, system}, specs.Unseen.{TurnIsolated}, proofs.Unseen.{turn_isolated}}
 use Rattle.mon_monitor.proofs.monitor.Monitor.turn.Goals as goal
 
 pub returns-clause-isolated : goal.returns-clause-isolated

@@ -1,6 +1,5 @@
 use Rattle.std.proofs.Common.{rules, subst, IfOk}
-use Rattle.mon_monitor.proofs.Common.{Sets, scheduler, slots_in, scheduler_in, MarkedIs}
-use Rattle.mon_monitor.proofs.Schedules.{turns_any_order}
+use Rattle.mon_monitor.proofs.{Common.{Sets, scheduler, slots_in, scheduler_in, MarkedIs}, Schedules.{turns_any_order}}
 use Rattle.mon_monitor.proofs.monitor.Monitor.turns.Goals as goal
 
 pub returns-clause-any_order : goal.returns-clause-any_order

@@ -1,6 +1,5 @@
 use Rattle.std.proofs.Common.{◌≡◌, ◌∙◌, ℕ, List, subst, arith}
-use Rattle.mon_text.specs.Names.{head_of}
-use Rattle.mon_text.proofs.Padding.{head_is}
+use Rattle.mon_text.{specs.Names.{head_of}, proofs.Padding.{head_is}}
 use Rattle.mon_text.proofs.name.Name.head.Goals as goal
 
 pub returns : goal.returns

@@ -1,7 +1,6 @@
 use Rattle.std.proofs.Common.{rules, ◌≡◌, Some, ap, sym, ◌∙◌, slice_get}
 use Rattle.std.proofs.lemmas.Option.{slice_get-get_or}
-use Rattle.mon_unit.specs.declared.tie.Tie.{Tie}
-use Rattle.mon_unit.proofs.Ties.{placed_there, placed_past}
+use Rattle.mon_unit.{specs.declared.tie.Tie.{Tie}, proofs.Ties.{placed_there, placed_past}}
 use Rattle.mon_unit.proofs.units.Units.place.Goals as goal
 
 pub returns-then-unit-lt-TIES : goal.returns-then-unit-lt-TIES

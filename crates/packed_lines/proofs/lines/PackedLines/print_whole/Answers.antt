@@ -2,9 +2,7 @@
 use Rattle.std.proofs.Common.{◌≤◌, ◌∙◌, length, ap, arith}
 use Rattle.std.proofs.lemmas.List.{take_all}
 use Rattle.mon_device.proofs.Putting.{puts_nothing, puts_same}
-use Rattle.packed_lines.specs.Packing.{printed}
-use Rattle.packed_lines.proofs.Standing.{known}
-use Rattle.packed_lines.proofs.Gathering.{piece_put}
+use Rattle.packed_lines.{specs.Packing.{printed}, proofs.Standing.{known}, proofs.Gathering.{piece_put}}
 use Rattle.packed_lines.proofs.lines.PackedLines.print_whole.Goals as goal
 
 pub loop-from-init : goal.loop-from-init

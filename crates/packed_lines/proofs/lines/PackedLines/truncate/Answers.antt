@@ -1,7 +1,6 @@
 -- The lines before the index are left.
 use Rattle.std.proofs.Common.{arith}
-use Rattle.std.specs.Prelude.{min, vec_capacity}
-use Rattle.std.proofs.lemmas.List.{take_all}
+use Rattle.std.{specs.Prelude.{min, vec_capacity}, proofs.lemmas.List.{take_all}}
 use Rattle.packed_lines.proofs.Standing.{counted, cut_so, known, seen, standing}
 use Rattle.packed_lines.proofs.lines.PackedLines.truncate.Goals as goal
 

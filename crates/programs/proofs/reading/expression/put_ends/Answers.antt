@@ -1,8 +1,7 @@
 -- One end more.
 use Rattle.std.proofs.Common.{◌≡◌, ◌∙◌, ◌-◌, ◌+◌, ℕ, suc, List, ◌++◌, drop, ap, sym, append_assoc, arith}
 use Rattle.std.specs.Prelude.{codes}
-use Rattle.programs.specs.inner.Runs.{ends_text}
-use Rattle.programs.proofs.Runs.{one_end}
+use Rattle.programs.{specs.inner.Runs.{ends_text}, proofs.Runs.{one_end}}
 use Rattle.programs.proofs.reading.expression.put_ends.Goals as goal
 
 pub loop-left-preserved : goal.loop-left-preserved

@@ -1,6 +1,5 @@
 use Rattle.std.proofs.Common.{◌∙◌, sym, ap}
-use Rattle.scheduler.proofs.Common.{slots_in, scheduler, Goal, stop_of}
-use Rattle.scheduler.proofs.Seats.{seated_not_done}
+use Rattle.scheduler.proofs.{Common.{slots_in, scheduler, Goal, stop_of}, Seats.{seated_not_done}}
 use Rattle.scheduler.proofs.rounds.Goal.is_met_beside_a_job.Goals as goal
 
 pub returns-in-Empty : goal.returns-in-Empty

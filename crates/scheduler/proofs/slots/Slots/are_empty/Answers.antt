@@ -1,6 +1,5 @@
 use Rattle.std.proofs.Common.{List, Option, ap, ◌∙◌, is_none}
-use Rattle.scheduler.proofs.Common.{list_all, Slot}
-use Rattle.scheduler.proofs.Seats.{none_of}
+use Rattle.scheduler.proofs.{Common.{list_all, Slot}, Seats.{none_of}}
 use Rattle.scheduler.proofs.slots.Slots.are_empty.Goals as goal
 
 pub returns : goal.returns

@@ -1,6 +1,5 @@
 use Rattle.std.proofs.Common.{Option, IsSome, sym, subst, ◌∙◌}
-use Rattle.scheduler.proofs.Common.{SlotState}
-use Rattle.scheduler.proofs.Calls.{found, seat_is, seat_emptied, some_in}
+use Rattle.scheduler.proofs.{Common.{SlotState}, Calls.{found, seat_is, seat_emptied, some_in}}
 use Rattle.scheduler.proofs.slots.Slots.empty.Goals as goal
 
 pub leave-requires : goal.leave-requires

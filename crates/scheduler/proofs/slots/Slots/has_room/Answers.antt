@@ -1,6 +1,5 @@
 use Rattle.std.proofs.Common.{List, Option, ap, ◌∙◌, is_none}
-use Rattle.scheduler.proofs.Common.{list_any, Slot}
-use Rattle.scheduler.proofs.Seats.{some_free}
+use Rattle.scheduler.proofs.{Common.{list_any, Slot}, Seats.{some_free}}
 use Rattle.scheduler.proofs.slots.Slots.has_room.Goals as goal
 
 pub returns : goal.returns

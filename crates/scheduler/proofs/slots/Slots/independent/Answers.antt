@@ -1,6 +1,5 @@
 use Rattle.std.proofs.Common.{List, Option, ap, sym, ◌∙◌}
-use Rattle.scheduler.proofs.Common.{Slot, are_apart}
-use Rattle.scheduler.proofs.Apart.{apart_is}
+use Rattle.scheduler.proofs.{Common.{Slot, are_apart}, Apart.{apart_is}}
 use Rattle.scheduler.proofs.slots.Slots.independent.Goals as goal
 
 pub returns : goal.returns

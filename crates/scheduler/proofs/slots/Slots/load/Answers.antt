@@ -1,7 +1,6 @@
 use Rattle.std.proofs.Common.{rules, ◌≡◌, ◌∙◌, suc, List, Option, Some, None, ap, sym, arith, position, is_none, option_map, Err}
-use Rattle.scheduler.proofs.Common.{err_from_is_err_and, Slot, slots_in}
+use Rattle.scheduler.proofs.{Common.{err_from_is_err_and, Slot, slots_in}, Loads.{free_is, free_some, within, no_slot, stopped_for, stop_refused, loaded_at}}
 use Rattle.mon_text.specs.declared.stop.Stop.TheVariants.{Memory}
-use Rattle.scheduler.proofs.Loads.{free_is, free_some, within, no_slot, stopped_for, stop_refused, loaded_at}
 use Rattle.scheduler.proofs.slots.Slots.load.Goals as goal
 
 pub returns-in_default-clause-refused : goal.returns-in_default-clause-refused

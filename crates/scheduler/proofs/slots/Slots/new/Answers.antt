@@ -1,6 +1,5 @@
 use Rattle.std.proofs.Common.{◌∙◌, ap, arith, ℕ, None, replicate}
-use Rattle.scheduler.proofs.Common.{seats_of}
-use Rattle.scheduler.proofs.Seats.{empty_seats}
+use Rattle.scheduler.proofs.{Common.{seats_of}, Seats.{empty_seats}}
 use Rattle.scheduler.proofs.slots.Slots.new.Goals as goal
 
 pub returns : goal.returns

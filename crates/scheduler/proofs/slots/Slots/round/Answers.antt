@@ -1,7 +1,5 @@
 use Rattle.std.proofs.Common.{◌<◌, ℕ, length, subst, refl}
-use Rattle.scheduler.proofs.Common.{slots_in, stop_of, scheduler_in}
-use Rattle.scheduler.proofs.Rounding.{round_begins, round_step}
-use Rattle.scheduler.proofs.Shorthand.{then_loans}
+use Rattle.scheduler.proofs.{Common.{slots_in, stop_of, scheduler_in}, Rounding.{round_begins, round_step}, Shorthand.{then_loans}}
 use Rattle.scheduler.proofs.slots.Slots.round.Goals as goal
 
 pub loop-number-init : goal.loop-number-init

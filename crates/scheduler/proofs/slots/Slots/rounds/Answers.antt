@@ -1,7 +1,5 @@
 use Rattle.std.proofs.Common.{List, refl, sym, ◌∙◌, subst, arith}
-use Rattle.scheduler.proofs.Common.{JobEnd, slots_in, Going, stop_of, scheduler_in}
-use Rattle.scheduler.proofs.Calls.{jobs_few}
-use Rattle.scheduler.proofs.Rounding.{going_begins, going_to, going_done}
+use Rattle.scheduler.proofs.{Common.{JobEnd, slots_in, Going, stop_of, scheduler_in}, Calls.{jobs_few}, Rounding.{going_begins, going_to, going_done}}
 use Rattle.scheduler.proofs.Shorthand.{then_loans}
 use Rattle.scheduler.proofs.slots.Slots.rounds.Goals as goal
 

@@ -1,6 +1,4 @@
-use Rattle.scheduler.proofs.Common.{seat_of, seats_of}
-use Rattle.scheduler.proofs.Calls.{found, seat_is}
-use Rattle.scheduler.proofs.Alone.{seat_tells, slots_end}
+use Rattle.scheduler.proofs.{Common.{seat_of, seats_of}, Calls.{found, seat_is}, Alone.{seat_tells, slots_end}}
 use Rattle.scheduler.proofs.slots.Slots.run_lone.Goals as goal
 
 pub unwrap-requires : goal.unwrap-requires

@@ -1,6 +1,5 @@
 use Rattle.std.proofs.Common.{arith, refl}
-use Rattle.scheduler.proofs.Common.{Empty, slots_in, job_end, scheduler_in, Goes, Ended}
-use Rattle.scheduler.proofs.Calls.{turn_jobs, went_on, leaving, stepped_out, leaving_jobs}
+use Rattle.scheduler.proofs.{Common.{Empty, slots_in, job_end, scheduler_in, Goes, Ended}, Calls.{turn_jobs, went_on, leaving, stepped_out, leaving_jobs}}
 use Rattle.scheduler.proofs.slots.Slots.turn_into.Goals as goal
 
 pub returns-in-None-clause-jobs : goal.returns-in-None-clause-jobs

@@ -1,6 +1,5 @@
 use Rattle.std.proofs.Common.{arith, refl, sym, ◌∙◌, inl}
-use Rattle.scheduler.proofs.Common.{stop_of}
-use Rattle.scheduler.proofs.Rounding.{no_turn}
+use Rattle.scheduler.proofs.{Common.{stop_of}, Rounding.{no_turn}}
 use Rattle.scheduler.proofs.slots.Slots.turn_unless.Goals.{else-has_job-via-then-has_job+else-not-is_met_beside_a_job, else-has_job-via-else-has_job}
 use Rattle.scheduler.proofs.slots.Slots.turn_unless.Goals as goal
 

@@ -1,8 +1,6 @@
 use Rattle.std.proofs.Common.{◌≡◌, ℕ, ◌+◌, List, [], ◌∷◌, get_or, drop, refl, sym, ◌∙◌, subst, arith, add-one, drop-cons}
-use Rattle.scheduler.proofs.Common.{drop_of_length-le, JobEnd, seat_of, seats_of, never, Ahead, scheduler_in, length-map}
-use Rattle.scheduler.proofs.Calls.{jobs_few}
-use Rattle.scheduler.proofs.Rounding.{begin, ahead_more, ahead_done}
-use Rattle.scheduler.proofs.Shorthand.{then_loans}
+use Rattle.scheduler.proofs.{Common.{drop_of_length-le, JobEnd, seat_of, seats_of, never, Ahead, scheduler_in, length-map}, Calls.{jobs_few}}
+use Rattle.scheduler.proofs.{Rounding.{begin, ahead_more, ahead_done}, Shorthand.{then_loans}}
 use Rattle.scheduler.proofs.slots.Slots.turns.Goals as goal
 
 pub loop-number-init : goal.loop-number-init

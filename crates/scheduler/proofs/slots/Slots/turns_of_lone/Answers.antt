@@ -1,6 +1,5 @@
 use Rattle.std.proofs.Common.{◌∷◌, [], None, ◌∙◌, ap, arith, is_some}
-use Rattle.scheduler.proofs.Common.{slots_in, job_end}
-use Rattle.scheduler.proofs.Seats.{seat_length}
+use Rattle.scheduler.proofs.{Common.{slots_in, job_end}, Seats.{seat_length}}
 use Rattle.scheduler.proofs.slots.Slots.turns_of_lone.Goals as goal
 
 pub keep_end-requires-clause-job : goal.keep_end-requires-clause-job

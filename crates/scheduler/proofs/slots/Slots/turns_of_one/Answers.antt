@@ -1,8 +1,6 @@
 use Rattle.std.proofs.Common.{◌∙◌, refl}
-use Rattle.scheduler.proofs.Common.{Empty, slots_in, scheduler, scheduler_in, Goes, Ended}
-use Rattle.scheduler.proofs.Calls.{went_on, leaving, stepped_out}
+use Rattle.scheduler.proofs.{Common.{Empty, slots_in, scheduler, scheduler_in, Goes, Ended}, Calls.{went_on, leaving, stepped_out}, Shorthand.{then_loans}}
 use Rattle.scheduler.proofs.Giving.{giving_begins, giving_goes, giving_empty, giving_ended}
-use Rattle.scheduler.proofs.Shorthand.{then_loans}
 use Rattle.scheduler.proofs.slots.Slots.turns_of_one.Goals as goal
 
 pub loop-init : goal.loop-init

@@ -1,6 +1,5 @@
 use Rattle.std.proofs.Common.{◌≡◌, rules, Some, None, map, sym, ◌∙◌, ap}
-use Rattle.site_folder.specs.Memory.{events_of, given_in, after_events}
-use Rattle.site_folder.proofs.Remembering.{found_in}
+use Rattle.site_folder.{specs.Memory.{events_of, given_in, after_events}, proofs.Remembering.{found_in}}
 use Rattle.site_folder.proofs.memory.MemoryFolderFolder.get.Goals as goal
 
 pub returns-in_ok-to_vec-in-Some-clause-got : goal.returns-in_ok-to_vec-in-Some-clause-got

@@ -1,7 +1,5 @@
 use Rattle.std.proofs.Common.{◌≡◌, ◌∷◌, [], ◌++◌, rules, Some, refl, ◌∙◌, ap}
-use Rattle.site_folder.specs.Files.{put_of}
-use Rattle.site_folder.specs.Memory.{events_of, disk_of, found_on}
-use Rattle.site_folder.proofs.Remembering.{stays_same, goes_given, found_given}
+use Rattle.site_folder.{specs.Files.{put_of}, specs.Memory.{events_of, disk_of, found_on}, proofs.Remembering.{stays_same, goes_given, found_given}}
 use Rattle.site_folder.proofs.memory.MemoryFolderFolder.put.Goals as goal
 
 pub returns-in_err-given-clause-crash : goal.returns-in_err-given-clause-crash

@@ -1,6 +1,5 @@
 use Rattle.std.proofs.Common.{[], ◌∙◌, ap, subst}
-use Rattle.site_folder.specs.Memory.{events_of, disk_of, found_on, IsLeft}
-use Rattle.site_folder.proofs.Remembering.{stays_same, goes_synced, found_synced, only_synced}
+use Rattle.site_folder.{specs.Memory.{events_of, disk_of, found_on, IsLeft}, proofs.Remembering.{stays_same, goes_synced, found_synced, only_synced}}
 use Rattle.site_folder.proofs.memory.MemoryFolderFolder.sync.Goals as goal
 
 pub returns-in_err-note-clause-crash : goal.returns-in_err-note-clause-crash

@@ -1,6 +1,5 @@
 use Rattle.std.proofs.lemmas.Slice.Eq.{bytes_eq-Decides}
-use Rattle.site_plan.specs.Weighing.{before}
-use Rattle.site_plan.proofs.Weighed.{still_within, still_counted, still_own}
+use Rattle.site_plan.{specs.Weighing.{before}, proofs.Weighed.{still_within, still_counted, still_own}}
 use Rattle.site_plan.proofs.desk.Desk.take.Goals as goal
 
 pub invariant_of-self : goal.invariant_of-self

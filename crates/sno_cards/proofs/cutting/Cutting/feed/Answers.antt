@@ -1,10 +1,8 @@
 use Rattle.std.proofs.Common.{◌≡◌, ◌++◌, ◌+◌, true, false, drop, get_or, sym, ap, ◌∙◌, arith}
 use Rattle.std.specs.List.{slice_range}
-use Rattle.sno_cards.specs.Statements.{ends_statement, placed_on}
-use Rattle.sno_cards.specs.inner.Cuts.{Cut, cut_of, fed}
-use Rattle.sno_cards.proofs.Feeding.{piece_ends, piece_goes_on}
+use Rattle.sno_cards.specs.{Statements.{ends_statement, placed_on}, inner.Cuts.{Cut, cut_of, fed}}
+use Rattle.sno_cards.proofs.{Feeding.{piece_ends, piece_goes_on}, cutting.Cutting.feed.Goals.{then-ends_statement+in_ok-cut, else-ends_statement}}
 use Rattle.sno_cards.proofs.cutting.Cutting.feed.Goals as goal
-use Rattle.sno_cards.proofs.cutting.Cutting.feed.Goals.{then-ends_statement+in_ok-cut, else-ends_statement}
 
 pub loop-index-preserved : goal.loop-index-preserved
 loop-index-preserved c =

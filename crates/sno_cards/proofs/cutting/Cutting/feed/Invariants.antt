@@ -1,7 +1,6 @@
 use Rattle.std.proofs.Common.{◌≡◌, ◌+◌, ◌++◌, ◌≤◌, drop}
 use Rattle.std.specs.List.{slice_range}
-use Rattle.sno_cards.specs.Statements.{placed_on}
-use Rattle.sno_cards.specs.inner.Cuts.{cut_of, fed}
+use Rattle.sno_cards.specs.{Statements.{placed_on}, inner.Cuts.{cut_of, fed}}
 use Rattle.sno_cards.proofs.cutting.Cutting.feed.Given as goal
 
 -- what is cut so far, with the characters since then, fed with those that are left, is the whole text fed

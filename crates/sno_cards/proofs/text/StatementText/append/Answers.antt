@@ -1,8 +1,6 @@
 use Rattle.std.proofs.Common.{◌≡◌, ◌++◌, [], length, append-nil, sym, ap, ◌∙◌, arith}
-use Rattle.std.proofs.lemmas.List.{nil_from_length}
-use Rattle.std.proofs.lemmas.Bool.Decides.{nat_tests}
-use Rattle.sno_cards.specs.Statements.{placed_on}
-use Rattle.sno_cards.proofs.Placing.{appended_ok, still_ascends}
+use Rattle.std.proofs.lemmas.{List.{nil_from_length}, Bool.Decides.{nat_tests}}
+use Rattle.sno_cards.{specs.Statements.{placed_on}, proofs.Placing.{appended_ok, still_ascends}}
 use Rattle.sno_cards.proofs.text.StatementText.append.Goals as goal
 
 pub returns-then-is_empty : goal.returns-then-is_empty

@@ -1,7 +1,5 @@
 use Rattle.std.proofs.Common.{◌<◌, ◌≡◌, ◌∙◌, sym, ap, length, slice_get, arith}
-use Rattle.sno_cards.specs.inner.Parts.{places_of}
-use Rattle.sno_cards.specs.inner.Segments.{nowhere, place_by}
-use Rattle.sno_cards.proofs.Placing.{read_place, length-placed_by}
+use Rattle.sno_cards.{specs.inner.Parts.{places_of}, specs.inner.Segments.{nowhere, place_by}, proofs.Placing.{read_place, length-placed_by}}
 use Rattle.sno_cards.proofs.text.StatementText.place.Goals as goal
 
 pub returns : goal.returns

@@ -1,6 +1,5 @@
 use Rattle.std.proofs.Common.{sym, ap, ◌∙◌}
-use Rattle.sno_pattern.specs.inner.Stack.{Ahead}
-use Rattle.sno_pattern.proofs.Cells.{taken_back, last_open}
+use Rattle.sno_pattern.{specs.inner.Stack.{Ahead}, proofs.Cells.{taken_back, last_open}}
 use Rattle.sno_pattern.proofs.trail.Trail.back.Goals as goal
 
 pub invariant_of-self-in-Some : goal.invariant_of-self-in-Some

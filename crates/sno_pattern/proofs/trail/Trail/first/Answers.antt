@@ -1,7 +1,6 @@
 use Rattle.std.proofs.Common.{sym, ap, ◌∙◌}
 use Rattle.std.specs.Prelude.{reverse}
-use Rattle.sno_pattern.specs.inner.Stack.{Ahead}
-use Rattle.sno_pattern.proofs.Cells.{in_front, behind_one}
+use Rattle.sno_pattern.{specs.inner.Stack.{Ahead}, proofs.Cells.{in_front, behind_one}}
 use Rattle.sno_pattern.proofs.trail.Trail.first.Goals as goal
 
 pub returns : goal.returns

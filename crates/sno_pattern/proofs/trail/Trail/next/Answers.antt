@@ -1,10 +1,6 @@
 use Rattle.std.proofs.Common.{◌≡◌, ◌≤◌, ◌+◌, [], ◌∷◌, List, length, vec_len, refl, sym, ap, ◌∙◌, subst, arith}
-use Rattle.std.specs.Prelude.{reverse}
-use Rattle.std.proofs.lemmas.List.{length-append, length-reverse}
-use Rattle.sno_pattern.specs.Steps.{Goal}
-use Rattle.sno_pattern.specs.inner.Stack.{Ahead}
-use Rattle.sno_pattern.specs.inner.Cells.{goals_at}
-use Rattle.sno_pattern.proofs.Cells.{ahead, in_front, passed, empty_at, popped}
+use Rattle.std.{specs.Prelude.{reverse}, proofs.lemmas.List.{length-append, length-reverse}}
+use Rattle.sno_pattern.{specs.Steps.{Goal}, specs.inner.Stack.{Ahead}, specs.inner.Cells.{goals_at}, proofs.Cells.{ahead, in_front, passed, empty_at, popped}}
 use Rattle.sno_pattern.proofs.trail.Trail.next.Goals as goal
 
 pub returns-then-self-eq0 : goal.returns-then-self-eq0

@@ -1,7 +1,6 @@
 use Rattle.std.proofs.Common.{sym, ap, arith, drop, ◌≡◌, List}
 use Rattle.std.specs.Prelude.{reverse}
-use Rattle.sno_pattern.specs.Steps.{Goal}
-use Rattle.sno_pattern.proofs.Cells.{ahead, in_front, passed, none_at}
+use Rattle.sno_pattern.{specs.Steps.{Goal}, proofs.Cells.{ahead, in_front, passed, none_at}}
 use Rattle.sno_pattern.proofs.trail.Trail.pass.Goals as goal
 
 pub invariant_of-self : goal.invariant_of-self

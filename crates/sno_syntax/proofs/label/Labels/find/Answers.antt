@@ -1,7 +1,6 @@
 -- The label at the place that was kept is this one.
 use Rattle.std.proofs.Common.{rules, ◌≡◌, ◌∙◌, ap, true}
-use Rattle.std.specs.Prelude.{bytes_eq}
-use Rattle.std.specs.Map.{lookup}
+use Rattle.std.specs.{Prelude.{bytes_eq}, Map.{lookup}}
 use Rattle.sno_syntax.proofs.Tables.{found_shown}
 use Rattle.sno_syntax.proofs.label.Labels.find.Goals as goal
 

@@ -1,7 +1,6 @@
 -- So many of a text are one, as long as the number says.
 use Rattle.std.proofs.Common.{◌∙◌, ◌++◌, ◌<◌, List, ℕ, ap, length, rules, subst, sym}
-use Rattle.std.specs.List.{repeat}
-use Rattle.std.proofs.lemmas.Result.{on_err_weaker}
+use Rattle.std.{specs.List.{repeat}, proofs.lemmas.Result.{on_err_weaker}}
 use Rattle.mon_text.specs.Lines.{IsLine}
 use Rattle.sno_text.proofs.Repeating.{null_repeated, line_of_repeated, length-repeated}
 use Rattle.sno_text.proofs.text.Text.repeated.Goals as goal

@@ -2,9 +2,7 @@
 use Rattle.std.proofs.Common.{◌≡◌, sym, ◌∙◌, ap, length, subst}
 use Rattle.std.proofs.lemmas.Result.{IfOk-weaker}
 use Rattle.mon_text.specs.Lines.{IsLine}
-use Rattle.sno_text.specs.Texts.{without_trailing_blanks}
-use Rattle.sno_text.proofs.Printable.{line_of_take}
-use Rattle.sno_text.proofs.Trimming.{front_of, whole}
+use Rattle.sno_text.{specs.Texts.{without_trailing_blanks}, proofs.Printable.{line_of_take}, proofs.Trimming.{front_of, whole}}
 use Rattle.sno_text.proofs.text.Text.trimmed.Goals as goal
 
 pub returns-then-kept-len-clause-value : goal.returns-then-kept-len-clause-value

@@ -1,8 +1,7 @@
 -- All are named, so each name has what it had before the first exchange.
 use Rattle.std.proofs.Common.{rules, ◌≡◌, ◌∙◌, ap, length}
 use Rattle.sno_declarations.specs.Prototypes.{names_of}
-use Rattle.sno_variables.specs.inner.Exchanging.{values_now}
-use Rattle.sno_variables.proofs.Exchanged.{taken_now}
+use Rattle.sno_variables.{specs.inner.Exchanging.{values_now}, proofs.Exchanged.{taken_now}}
 use Rattle.sno_variables.proofs.variables.Variables.exchange_named.Goals as goal
 
 pub returns-then-known-len-clause-taken : goal.returns-then-known-len-clause-taken
