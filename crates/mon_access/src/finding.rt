@@ -5,7 +5,7 @@ ghost use Rattle.mon_acl.specs.Permissions.{holds};
 ghost use Rattle.mon_access.specs.Matches.{is_in_group, is_for_user, is_for_owning_group, is_for_named_group, is_for_group, some_holds};
 ghost use Rattle.mon_access.specs.inner.Kinds.{found, judged, joined, is_holding, stands_at};
 
-use crate::account::Account;
+use crate::account::{Account, has_group};
 use mon_acl::{AclIndex, Perms, Tag};
 use mon_text::Name;
 
@@ -97,7 +97,7 @@ pub(crate) fn of_user(acl: &AclIndex, account: &Account, request: Perms) -> Foun
 fn is_in_group(account: &Account, group: &Name) -> bool
     ensures { result ≡ is_in_group account.now group.now }
 {
-    account.primary == *group || account.groups.contains(group)
+    account.primary == *group || has_group(account.groups.as_slice(), group)
 }
 
 /// What the owning group's entry says to an account.
@@ -119,7 +119,7 @@ fn of_named_groups(acl: &AclIndex, account: &Account, request: Perms) -> Found
     ensures { result ≡ found (is_for_named_group account.now) acl.now request }
 {
     let mut so_far = of_name(acl, Tag::Group, &account.primary, request);
-    for name in account.groups.names() {
+    for name in account.groups.as_slice() {
         if let Found::Holding = so_far {
             return so_far;
         }

@@ -140,10 +140,10 @@ fn is_for_named_group(account: &Account, entry: &Entry) -> bool
 fn is_in_group(account: &Account, group: &Name) -> bool
     ensures { result ≡ is_in_group account.now group.now }
 {
-    account.primary == *group || is_one_of(account.groups.names(), group)
+    account.primary == *group || is_one_of(account.groups.as_slice(), group)
 }
 
-// The access check's own look, `Groups::contains`, stays part of it as long as nothing else takes that.
+// The access check's own look, that of `account`, stays part of it as long as nothing else takes that.
 fn is_one_of(groups: &[Name], group: &Name) -> bool
     ensures { result ≡ list_any (bytes_eq group.now) groups.now }
 {

@@ -5,15 +5,13 @@
 #![tactic(auto)]
 
 pub mod laws;
-pub mod lists;
 pub mod note;
 pub mod service;
 pub mod tie;
 pub mod units;
 
-pub use lists::Notes;
 pub use mon_text::Lines;
-pub use note::{Note, NoteAct, NoteTarget, Why};
+pub use note::{Note, NoteAct, NoteTarget, Notes, Why};
 pub use service::UnitService;
 pub use tie::{Target, Tie};
 pub use unit_ties::UnitError;

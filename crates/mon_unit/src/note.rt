@@ -1,7 +1,7 @@
 //! What is noted of a job: what it was denied, and where there was no room.
 
 use interaction::Reason;
-use mon_text::Name;
+use mon_text::{Listed, Name};
 
 /// What was asked.
 #[derive(Clone, Copy)]
@@ -47,3 +47,6 @@ pub struct Note {
     pub target: NoteTarget,
     pub why: Why,
 }
+
+/// Notes, in order.
+pub type Notes = Listed<Note>;

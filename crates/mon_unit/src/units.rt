@@ -8,8 +8,7 @@ ghost use Rattle.mon_unit.specs.Tying.{new_units, tie_refusal, tied_to, first_ta
 ghost use Rattle.mon_unit.specs.Serving.{moved, noted, with_note};
 ghost use Rattle.mon_unit.specs.inner.Settling.{placed, target_of};
 
-use crate::lists::Notes;
-use crate::note::{Attempt, Note, NoteTarget, Why};
+use crate::note::{Attempt, Note, NoteTarget, Notes, Why};
 use crate::tie::{Target, Tie};
 use interaction::{Answer, Reason};
 use mon_text::{Line, Lines, Name};

@@ -7,7 +7,6 @@ pub mod binding;
 pub mod definition;
 pub mod format;
 pub mod laws;
-pub mod names;
 pub mod prototype;
 
 pub use argument::{input_in, name_in, output_in, unit_in};
@@ -15,5 +14,4 @@ pub use association::{Input, Output};
 pub use binding::Bindings;
 pub use definition::{Definition, Function, definition_in};
 pub use format::{Format, read_format};
-pub use names::Names;
-pub use prototype::{Prototype, read_prototype};
+pub use prototype::{Names, Prototype, read_prototype};

@@ -8,10 +8,13 @@ ghost use Rattle.sno_declarations.specs.inner.Reading.{told, listed, items_from,
 ghost use Rattle.mon_text.specs.Characters.{is_identifier_character, is_comma, is_blank};
 ghost use Rattle.mon_text.specs.Beginnings.{without_leading};
 
-use crate::names::Names;
+use mon_text::Listed;
 use sno_text::{Named, Text, without_trailing_blanks};
 use std::alloc::{AllocError, Global};
 use std::collections::BTreeSet;
+
+/// Names in order.
+pub type Names = Listed<Named>;
 
 /// What a prototype says of a function.
 #[derive(Drop)]

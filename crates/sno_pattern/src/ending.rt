@@ -1,8 +1,7 @@
 //! How matches end.
-ghost use Rattle.std.specs.Prelude.{◌≡◌};
 
+use mon_text::Listed;
 use sno_text::{Fault, Text};
-use std::marker::Model;
 
 /// An assignment that waits for the end of a match.
 #[derive(Drop)]
@@ -12,34 +11,7 @@ pub struct Pending {
 }
 
 /// Assignments, the oldest first.
-#[derive(Drop)]
-pub struct Assignments {
-    list: Vec<Pending>,
-}
-
-impl Model for Assignments {
-    ghost use Rattle.std.specs.Prelude.{List};
-    ghost use Rattle.sno_pattern.specs.declared.ending.Pending.{Pending};
-
-    ghost Value = { List Pending };
-
-    ghost view = { λ a. a.list.items };
-}
-
-impl Assignments {
-    pub(crate) fn of_list(list: Vec<Pending>) -> Assignments
-        ensures { result ≡ list.items }
-    {
-        Assignments { list }
-    }
-
-    /// The assignments, the oldest first.
-    pub fn as_slice(&self) -> &[Pending]
-        ensures { result.now ≡ self.now }
-    {
-        &self.list
-    }
-}
+pub type Assignments = Listed<Pending>;
 
 /// How a match ends.
 #[derive(Drop)]

@@ -32,7 +32,7 @@ fn assignments_of(alloc: Global, text: &[u8], waits: &[Waiting]) -> Result<Assig
         let text = part_of(alloc, text, waiting.from, waiting.to)?;
         list.push(Pending { variable, text })?;
     }
-    Ok(Assignments::of_list(list))
+    Ok(Assignments::of(list))
 }
 
 /// Matches a text from one start after the other.
@@ -107,7 +107,7 @@ fn matches_in<H: MatchHost>(
         Ok(Some(found)) => Ok(MatchEnd::Matched {
             from: first,
             to: found.end,
-            pending: Assignments::of_list(found.pending),
+            pending: Assignments::of(found.pending),
         }),
         Ok(None) => match matches_from(alloc, pattern, text, first, starts, left, host) {
             Ok(end) => Ok(end),

@@ -15,7 +15,7 @@ returns-in-Holding c =
 pub loop-name-preserved : goal.loop-name-preserved
 loop-name-preserved c =
     let inv : c.loop-name.so_far ≡ found (is_so_far c.args.account.now (take c.loop-name.name-index c.args.account.now.groups)) c.args.acl.now c.args.request = c.loop-name.invariant in
-    let listed : c.names-name-items.result.now ≡ c.args.account.now.groups = c.names-name-items.ensures in
+    let listed : c.as_slice-name-items.result.now ≡ c.args.account.now.groups = c.as_slice-name-items.ensures in
     let within : c.loop-name.name-index < length c.args.account.now.groups = omega (arith, ap length listed) in
     let is : c.name-item.result ≡ get_or c.args.account.now.groups c.loop-name.name-index c.name-item.result = search rules in
     c.joined-so_far.ensures
@@ -25,7 +25,7 @@ loop-name-preserved c =
 pub returns : goal.returns
 returns c =
     let inv : c.loop-name.so_far ≡ found (is_so_far c.args.account.now (take c.loop-name.name-index c.args.account.now.groups)) c.args.acl.now c.args.request = c.loop-name.invariant in
-    let listed : c.names-name-items.result.now ≡ c.args.account.now.groups = c.names-name-items.ensures in
+    let listed : c.as_slice-name-items.result.now ≡ c.args.account.now.groups = c.as_slice-name-items.ensures in
     inv
     ∙ ap (λ (names : List (List ℕ)). found (is_so_far c.args.account.now names) c.args.acl.now c.args.request)
     (take_all c.loop-name.name-index c.args.account.now.groups (omega (arith, ap length listed)))
