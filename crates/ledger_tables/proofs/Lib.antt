@@ -1,4 +1,3 @@
 pub mod Printed
-pub mod Walking
 pub mod LimitsBack
 pub mod UsersBack

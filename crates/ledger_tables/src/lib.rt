@@ -3,7 +3,6 @@
 
 pub mod laws;
 pub mod limits;
-mod lines;
 pub mod tables;
 pub mod users;
 

@@ -8,11 +8,10 @@ ghost use Rattle.site_plan.specs.Tables.{ended_lines};
 ghost use Rattle.ledger_tables.specs.Limits.{bound_name, bound_on, number_on, said_on, is_same_bound, is_same, with_said, after_line};
 ghost use Rattle.ledger_tables.specs.Limits.{number_of, quota_in, limits_in, limits_of, given_by, given_line, demonstration_lines, limits_text};
 
-use crate::lines::{is_skipped, stop_at, words_of};
 use deck_syntax::first_line;
-use mon_text::{Stop, put_number, read_count};
+use mon_text::{Stop, put_number, read_count, split_words};
 use preflight::{Limit, Quota};
-use site_plan::limit_name;
+use site_plan::{is_skipped, limit_name, stop_at};
 use std::alloc::{AllocError, Global};
 
 /// What a site's file of limits says.
@@ -113,7 +112,7 @@ fn take_line(alloc: Global, said: &mut Vec<Said>, line: &[u8]) -> Result<(), Sto
     if is_skipped(line) {
         return Ok(());
     }
-    let words = words_of(alloc, line)?;
+    let words = split_words(alloc, line)?;
     match said_on(words.as_slice()) {
         None => Err(Stop::Refused(LimitsFault::BadLine)),
         Some(one) => add_said(said, one),

@@ -1,4 +1,4 @@
-mod Walking
+pub mod Walking
 mod Weighed
 mod Reaching
 mod Owners

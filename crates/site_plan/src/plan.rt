@@ -4,10 +4,9 @@ ghost use Rattle.std.specs.List.{flat_map};
 ghost use Rattle.std.specs.Option.{option_map_or};
 ghost use Rattle.site_plan.specs.Plans.{word_of, numbers_of, front_text, entry_text, end_text, checksum_text, next_text, plan_text};
 
-use crate::lines::words_of;
 use crate::taken::Taken;
 use deck_syntax::first_line;
-use mon_text::{Stop, put_number, read_count};
+use mon_text::{Stop, put_number, read_count, split_words};
 use std::alloc::{AllocError, Global};
 
 /// What becomes of a text.
@@ -280,7 +279,7 @@ fn take_line(begun: &mut Begun, line: PlanLine) -> Result<(), Stop<NoPlan>> {
 }
 
 fn read_line(alloc: Global, line: &[u8]) -> Result<PlanLine, Stop<NoPlan>> {
-    let words = words_of(alloc, line)?;
+    let words = split_words(alloc, line)?;
     match line_of(alloc, words.as_slice())? {
         Some(line) => Ok(line),
         None => Err(Stop::Refused(NoPlan)),

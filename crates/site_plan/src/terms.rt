@@ -5,9 +5,9 @@ ghost use Rattle.mon_text.specs.Stops.{Gives};
 ghost use Rattle.preflight.specs.Submissions.{IfStopped};
 ghost use Rattle.site_plan.specs.Terms.{limit_name, limit_on, number_on, term_on, is_same_limit, is_same, with_term, after_line, number_of, limits_of, terms_in, terms_of};
 
-use crate::lines::{is_skipped, stop_at, words_of};
+use crate::lines::{is_skipped, stop_at};
 use deck_syntax::first_line;
-use mon_text::{Stop, read_count};
+use mon_text::{Stop, read_count, split_words};
 use preflight::{Limit, Quota};
 use std::alloc::Global;
 
@@ -92,7 +92,7 @@ fn take_line(alloc: Global, said: &mut Vec<Term>, line: &[u8]) -> Result<(), Sto
     if is_skipped(line) {
         return Ok(());
     }
-    let words = words_of(alloc, line)?;
+    let words = split_words(alloc, line)?;
     match term_of(words.as_slice()) {
         None => Err(Stop::Refused(TermsFault::BadLine)),
         Some(term) => add_term(said, term),

@@ -4,10 +4,10 @@ ghost use Rattle.mon_text.specs.Stops.{Gives};
 ghost use Rattle.preflight.specs.Submissions.{IfStopped};
 ghost use Rattle.site_plan.specs.Users.{uid_on, user_with, user_on, has_uid, has_account, with_user, with_known, after_line, users_of, uid_of};
 
-use crate::lines::{is_skipped, stop_at, words_of};
+use crate::lines::{is_skipped, stop_at};
 use deck_syntax::first_line;
 use mon_access::Accounts;
-use mon_text::{Name, Stop, read_count, read_name};
+use mon_text::{Name, Stop, read_count, read_name, split_words};
 use std::alloc::Global;
 
 /// A user of the system, by the number that the kernel has for him, and his account.
@@ -94,7 +94,7 @@ fn take_line(
     if is_skipped(line) {
         return Ok(());
     }
-    let words = words_of(alloc, line)?;
+    let words = split_words(alloc, line)?;
     match user_of(words.as_slice()) {
         None => Err(Stop::Refused(UsersFault::BadLine)),
         Some(user) => add_known(demonstration, accounts, users, user),

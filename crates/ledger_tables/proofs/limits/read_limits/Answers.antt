@@ -1,5 +1,6 @@
 use Rattle.std.proofs.Common.{length, ap, arith}
-use Rattle.ledger_tables.{specs.Limits.{after_line}, proofs.Walking.{walk_on}}
+use Rattle.site_plan.proofs.Walking.{walk_on}
+use Rattle.ledger_tables.specs.Limits.{after_line}
 use Rattle.ledger_tables.proofs.limits.read_limits.Goals as goal
 
 pub lines-preserved : goal.lines-preserved
