@@ -1,5 +1,6 @@
 pub mod Texts
 pub mod Refusals
+pub mod Refused
 pub mod Reading
 pub mod Forms
 pub mod Printing

@@ -20,8 +20,8 @@ use crate::request::print_reason_word;
 use interaction::Reason;
 use mon_access::{Account, Accounts};
 use mon_catalogue::{Catalogue, DataSet};
-use mon_command::{Command, print_word};
-use mon_device::Sink;
+use mon_command::Command;
+use mon_device::{Sink, print_word};
 use mon_text::Name;
 
 /// Puts the lines of the data sets that a command shows.

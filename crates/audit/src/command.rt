@@ -18,8 +18,8 @@ use acl_text::print_short;
 use mon_access::Accounts;
 use mon_acl::Acl;
 use mon_catalogue::Catalogue;
-use mon_command::{Command, Reply, Said, print_number, print_word};
-use mon_device::Sink;
+use mon_command::{Command, Reply, Said};
+use mon_device::{Sink, print_number, print_word};
 use mon_text::Name;
 
 /// Puts the lines of a command of one of these accounts that this was said to, over the data sets as it has left them.

@@ -12,8 +12,8 @@ use interaction::{Answer, Reason};
 use mon_access::Account;
 use mon_acl::Perms;
 use mon_catalogue::{DataSet, Mode};
-use mon_command::{print_number, print_reason, print_word};
-use mon_device::Sink;
+use mon_command::print_reason;
+use mon_device::{Sink, print_number, print_word};
 use mon_text::Name;
 use mon_unit::{NoteAct, Target};
 

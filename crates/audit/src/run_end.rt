@@ -2,8 +2,7 @@
 ghost use Rattle.mon_device.specs.Putting.{Puts};
 ghost use Rattle.audit.specs.RunEnds.{stopped_line, deck_refused_line};
 
-use mon_command::{print_number, print_word};
-use mon_device::Sink;
+use mon_device::{Sink, print_number, print_word};
 
 /// Puts the line of a deck that was stopped.
 pub fn print_stopped<S: Sink>(sink: &mut S)

@@ -9,7 +9,8 @@ use Rattle.mon_acl.specs.declared.refusals.AclError.TheVariants.{BadTag, BadQual
 use Rattle.acl_text.specs.{Printing.{entry_head, entry_text, perms_text, letter, short_form}, Laws.{ReadsBack}}
 use Rattle.mon_catalogue.specs.{declared.mode.Mode.{Mode}, declared.mode.Mode.TheVariants.{Seq, Append}, Modes.{mode_word}}
 use Rattle.interaction.specs.declared.answer.Reason.{Reason, TheVariants.{By}}
-use Rattle.mon_command.specs.{Printouts.{word, number, list_refusal}, declared.reply.Reply.{Reply}, declared.said.Said.{Said}}
+use Rattle.acl_text.specs.Refused.{list_refusal}
+use Rattle.mon_command.specs.{Printouts.{word, number}, declared.reply.Reply.{Reply}, declared.said.Said.{Said}}
 use Rattle.mon_command.specs.{Replies.{reason_text, reply_text}, declared.reply.Reply.TheVariants.{Done, NoAccount, Denied, NameTaken, CatalogueFull, BadList}}
 use Rattle.mon_command.specs.declared.said.Said.TheVariants.{Told as ToldReply, Records, Entries, Names}
 use Rattle.audit.specs.{declared.grants.Grant.{Grant}, declared.grants.Grant.TheVariants.{AsOwner}, Grants.{last_words, is_granted, granted_words}}

@@ -1,8 +1,9 @@
 //! Codes in words.
 
+use acl_text::print_list_refusal;
 use deck_lines::DeckError;
-use mon_acl::{AclError, Tag};
-use mon_text::put_number;
+use mon_acl::AclError;
+use mon_device::TextSink;
 use std::alloc::AllocError;
 
 /// What a code says of a line of the deck.
@@ -42,25 +43,7 @@ pub(crate) fn put_cause(text: &str, cause: &str, out: &mut Vec<u8>) -> Result<()
 ///
 /// Where a growth was refused; a part of it may have been appended then.
 pub(crate) fn put_list_cause(error: AclError, out: &mut Vec<u8>) -> Result<(), AllocError> {
-    let (text, entry) = match error {
-        AclError::BadTag(entry) => ("A1 BAD TAG", entry),
-        AclError::BadQualifier(entry) => ("A2 BAD QUALIFIER", entry),
-        AclError::BadPerms(entry) => ("A3 BAD PERMS", entry),
-        AclError::Missing(tag) => return out.extend_from_slice(missing(tag).as_bytes()),
-        AclError::Twice(entry) => ("A5 TWICE", entry),
-        AclError::NoMask => return out.extend_from_slice(b"A6 NO MASK"),
-        AclError::TooMany(entry) => ("A7 TOO MANY", entry),
-    };
-    out.extend_from_slice(text.as_bytes())?;
-    out.extend_from_slice(b" ENTRY ")?;
-    put_number(entry, out)
-}
-
-fn missing(tag: Tag) -> &'static str {
-    match tag {
-        Tag::UserObj | Tag::User => "A4 MISSING user::",
-        Tag::GroupObj | Tag::Group => "A4 MISSING group::",
-        Tag::Mask => "A4 MISSING mask::",
-        Tag::Other => "A4 MISSING other::",
-    }
+    let mut sink = TextSink::new(out);
+    print_list_refusal(error, &mut sink);
+    sink.settle()
 }

@@ -8,8 +8,7 @@ use crate::job_end::JobEnd;
 use crate::printout::print_ending_words;
 use crate::refusal::print_refusal_words;
 use load_refusal::LoadError;
-use mon_command::{print_number, print_word};
-use mon_device::Sink;
+use mon_device::{Sink, print_number, print_word};
 use mon_text::Name;
 
 /// Puts the line of a job that is loaded.

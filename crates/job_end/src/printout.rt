@@ -8,8 +8,8 @@ ghost use Rattle.job_end.specs.Printouts.{target_words, exchange_words, note_wor
 
 use crate::job_end::JobEnd;
 use audit::act_word;
-use mon_command::{print_number, print_reason, print_word};
-use mon_device::{Sink, TextSink};
+use mon_command::print_reason;
+use mon_device::{Sink, TextSink, print_number, print_word};
 use mon_text::Name;
 use mon_unit::{Note, NoteTarget, Why};
 use sno_run::Ending;

@@ -5,8 +5,7 @@ ghost use Rattle.job_end.specs.Printouts.{unit_refusal, syntax_words, refusal_wo
 
 use crate::printout::print_job_line;
 use load_refusal::LoadError;
-use mon_command::print_number;
-use mon_device::{Sink, TextSink};
+use mon_device::{Sink, TextSink, print_number};
 use mon_text::Name;
 use sno_syntax::SyntaxError;
 use std::alloc::AllocError;

@@ -6,7 +6,7 @@ use Rattle.interaction.specs.declared.answer.Reason.{Reason}
 use Rattle.interaction.specs.declared.answer.Reason.TheVariants as reason
 use Rattle.mon_command.specs.declared.reply.Reply.{Reply}
 use Rattle.mon_command.specs.declared.reply.Reply.TheVariants.{Done, NoAccount, Denied, NameTaken, CatalogueFull, BadList}
-use Rattle.mon_command.specs.Printouts.{list_refusal}
+use Rattle.acl_text.specs.Refused.{list_refusal}
 
 -- why something is denied: the entry that decided, or what is missing
 abbrev pub reason_text : Reason → List ℕ

@@ -13,7 +13,7 @@ pub mod said;
 
 pub use deck_lines::Command;
 pub use execution::{execute, put_answered, put_unlisted};
-pub use printing::{print_number, print_word, put_listing};
+pub use printing::put_listing;
 pub use printout::Printout;
 pub use reply::{Reply, print_reason};
 pub use said::Said;

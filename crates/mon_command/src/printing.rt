@@ -2,18 +2,16 @@
 ghost use Rattle.std.specs.Prelude.{◌≡◌, ◌++◌, ◌+◌, ◌≤◌, OnOk, OnErr, length, take, vec_len, vec_capacity};
 ghost use Rattle.std.specs.List.{flat_map};
 ghost use Rattle.acl_text.specs.Printing.{long_line};
-ghost use Rattle.mon_device.specs.Putting.{Puts};
 ghost use Rattle.mon_command.specs.Commands.{card_line, heading};
 ghost use Rattle.mon_command.specs.Commanded.{Records as Listed, printed};
 ghost use Rattle.deck_lines.specs.declared.command.Command.TheVariants as command;
-ghost use Rattle.mon_command.specs.Printouts.{word, number, stored_line, count_line, records_text, name_line, acl_text, list_refusal};
+ghost use Rattle.mon_command.specs.Printouts.{word, number, stored_line, count_line, records_text, name_line, acl_text};
 
 use crate::room::{MOST_ON_LINE, place_name, place_number, put_first};
 use deck_lines::Command;
 use itoa::Buffer;
-use mon_acl::{AclError, Entry, Perms, Tag, copy_of_mask};
+use mon_acl::{Entry, Perms, copy_of_mask};
 use mon_catalogue::Records;
-use mon_device::Sink;
 use mon_guard::{AclView, NameView};
 use mon_text::Name;
 use std::alloc::AllocError;
@@ -187,51 +185,4 @@ pub(crate) fn put_card(
     put_word_in_room(name, out);
     out.push_reserved(b'\n');
     Ok(())
-}
-
-// Puts a refusal that names an entry by its number.
-fn print_at_entry<S: Sink>(what: &[u8], entry: u64, sink: &mut S)
-    ensures { Puts (S.standing sink.old) (S.standing sink.new) (what.now ++ number entry) }
-{
-    sink.put(what);
-    print_number(entry, sink);
-}
-
-// Puts why a permission list is refused.
-pub(crate) fn print_list_refusal<S: Sink>(error: AclError, sink: &mut S)
-    ensures { Puts (S.standing sink.old) (S.standing sink.new) (list_refusal error) }
-{
-    match error {
-        AclError::BadTag(entry) => print_at_entry(b"A1 BAD TAG ENTRY", entry, sink),
-        AclError::BadQualifier(entry) => print_at_entry(b"A2 BAD QUALIFIER ENTRY", entry, sink),
-        AclError::BadPerms(entry) => print_at_entry(b"A3 BAD PERMS ENTRY", entry, sink),
-        AclError::Missing(tag) => print_missing(tag, sink),
-        AclError::Twice(entry) => print_at_entry(b"A5 TWICE ENTRY", entry, sink),
-        AclError::NoMask => sink.put(b"A6 NO MASK"),
-        AclError::TooMany(entry) => print_at_entry(b"A7 TOO MANY ENTRY", entry, sink),
-    }
-}
-
-// Puts which entry is missing.
-fn print_missing<S: Sink>(tag: Tag, sink: &mut S)
-    ensures { Puts (S.standing sink.old) (S.standing sink.new) (list_refusal (AclError.Missing tag)) }
-{
-    sink.put(b"A4 MISSING ");
-    sink.put(tag.word());
-    sink.put(b"::");
-}
-
-/// Puts a word behind another.
-pub fn print_word<S: Sink>(text: &[u8], sink: &mut S)
-    ensures { Puts (S.standing sink.old) (S.standing sink.new) (word text.now) }
-{
-    sink.put(b" ");
-    sink.put(text);
-}
-
-/// Puts a number behind a word.
-pub fn print_number<S: Sink>(value: u64, sink: &mut S)
-    ensures { Puts (S.standing sink.old) (S.standing sink.new) (number value) }
-{
-    print_word(Buffer::new().format(value).as_bytes(), sink);
 }

@@ -1,10 +1,10 @@
 //! What a command is told in one line.
 ghost use Rattle.std.specs.Prelude.{◌≡◌, ◌++◌, codes, OnOk};
 ghost use Rattle.mon_device.specs.Putting.{Puts};
-ghost use Rattle.mon_command.specs.Printouts.{list_refusal};
+ghost use Rattle.acl_text.specs.Refused.{list_refusal};
 ghost use Rattle.mon_command.specs.Replies.{reason_text, reply_text, reply_line};
 
-use crate::printing::print_list_refusal;
+use acl_text::print_list_refusal;
 use interaction::Reason;
 use mon_acl::{AclError, Entry, Perms};
 use mon_device::{Sink, TextSink};

@@ -12,6 +12,7 @@ pub mod sink;
 pub mod streams;
 pub mod tally;
 pub mod transfer;
+pub mod words;
 
 pub use device::{DeckDevices, DeckReader, DeckWriter, Failed};
 pub use difference::{Difference, first_difference};
@@ -22,3 +23,4 @@ pub use sink::{DeviceSink, Room, Sink, TextSink};
 pub use streams::{StdReader, StdWriter, Telling};
 pub use tally::Tally;
 pub use transfer::{MOST_READS, READ_SIZE, WRITE_SIZE, write_all};
+pub use words::{print_number, print_word};

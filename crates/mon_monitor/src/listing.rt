@@ -7,8 +7,7 @@ ghost use Rattle.mon_catalogue.specs.Sets.{find_set};
 ghost use Rattle.mon_monitor.specs.Printed.{listing, records_of};
 
 use mon_catalogue::{Catalogue, Records};
-use mon_command::{print_number, print_word};
-use mon_device::Sink;
+use mon_device::{Sink, print_number, print_word};
 use mon_text::Name;
 
 // Puts the command's own line, the records of the data set of this name, and how many they are.

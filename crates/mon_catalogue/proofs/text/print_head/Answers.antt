@@ -11,4 +11,4 @@ returns g c =
       mode_is = c.word.ensures;
       count_is = c.len.ensures.value;
     })
-    c.put.ensures c.put-2.ensures c.print_word.ensures c.print_word-2.ensures c.print_word-3.ensures c.print_count.ensures c.put-3.ensures
+    c.put.ensures c.put-2.ensures c.print_word.ensures c.print_word-2.ensures c.print_word-3.ensures c.print_number.ensures c.put-3.ensures

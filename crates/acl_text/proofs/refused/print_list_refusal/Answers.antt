@@ -1,7 +1,7 @@
 use Rattle.std.proofs.Common.{ap, sym}
 use Rattle.mon_device.proofs.Putting.{puts_same}
-use Rattle.mon_command.specs.Printouts.{list_refusal}
-use Rattle.mon_command.proofs.printing.print_list_refusal.Goals as goal
+use Rattle.acl_text.specs.Refused.{list_refusal}
+use Rattle.acl_text.proofs.refused.print_list_refusal.Goals as goal
 
 pub returns-in-BadQualifier : goal.returns-in-BadQualifier
 returns-in-BadQualifier g c = puts_same _ _ _ _ (ap list_refusal (sym c.in-BadQualifier.is)) c.print_at_entry-in-BadQualifier.ensures

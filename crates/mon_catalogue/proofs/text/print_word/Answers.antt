@@ -1,5 +1,0 @@
-use Rattle.mon_device.proofs.Putting.{puts_then}
-use Rattle.mon_catalogue.proofs.text.print_word.Goals as goal
-
-pub returns : goal.returns
-returns g c = puts_then _ _ _ _ _ c.put.ensures c.put-2.ensures
