@@ -3,7 +3,7 @@ use Rattle.std.proofs.Common.{◌≡◌, ℕ, Bool, List, [], ◌∷◌, ◌++�
 use Rattle.std.specs.Prelude.{codes, decimal, ◌==◌, if◌then◌else◌, IfSome, option_map}
 use Rattle.mon_text.specs.Names.{IsName}
 use Rattle.interaction.specs.declared.answer.{Reason.{Reason}, Answer.{Answer}, Answer.TheVariants.{Done, Got, EndOfFile, Denied, Full}}
-use Rattle.unit_ties.specs.declared.unit_error.UnitError.TheVariants.{UnitRange, UnitTwice}
+use Rattle.deck_lines.specs.declared.unit_error.UnitError.TheVariants.{UnitRange, UnitTwice}
 use Rattle.sno_cards.specs.{declared.refusal.SyntaxCode.{SyntaxCode}, Codes.{code_symbol}}
 use Rattle.sno_cards.specs.declared.refusal.SyntaxCode.TheVariants.{NoEndLine, NothingToContinue, UnknownControlCard, BadConstant, BlankMissing, Unexpected, LabelTaken, VariableNeeded, StatementTooLarge, BadEnd}
 use Rattle.sno_text.specs.{declared.fault.Fault.{Fault}, Faults.{fault_name}}

@@ -16,7 +16,7 @@ use Rattle.interaction.specs.declared.answer.Answer.{Answer}
 use Rattle.interaction.specs.declared.answer.Answer.TheVariants as answer
 use Rattle.mon_catalogue.specs.declared.mode.Mode.{Mode}
 use Rattle.mon_catalogue.specs.declared.mode.Mode.TheVariants.{Seq, Append}
-use Rattle.unit_ties.specs.declared.unit_error.UnitError.TheVariants.{UnitRange, UnitTwice}
+use Rattle.deck_lines.specs.declared.unit_error.UnitError.TheVariants.{UnitRange, UnitTwice}
 use Rattle.sno_cards.specs.declared.refusal.SyntaxCode.{SyntaxCode}
 use Rattle.sno_cards.specs.declared.refusal.SyntaxCode.TheVariants.{NoEndLine, NothingToContinue, UnknownControlCard, BadConstant, BlankMissing}
 use Rattle.sno_cards.specs.declared.refusal.SyntaxCode.TheVariants.{Unexpected, LabelTaken, VariableNeeded, StatementTooLarge, BadEnd}

@@ -12,8 +12,8 @@ use Rattle.interaction.specs.declared.answer.Reason.TheVariants.{By, NoSet, NotO
 use Rattle.interaction.specs.declared.answer.Answer.{Answer}
 use Rattle.interaction.specs.declared.answer.Answer.TheVariants.{Done, Got, EndOfFile, Denied, Full}
 use Rattle.mon_catalogue.specs.declared.mode.Mode.{Mode}
-use Rattle.unit_ties.specs.declared.unit_error.UnitError.{UnitError}
-use Rattle.unit_ties.specs.declared.unit_error.UnitError.TheVariants.{UnitRange, UnitTwice}
+use Rattle.deck_lines.specs.declared.unit_error.UnitError.{UnitError}
+use Rattle.deck_lines.specs.declared.unit_error.UnitError.TheVariants.{UnitRange, UnitTwice}
 use Rattle.sno_cards.specs.declared.refusal.SyntaxError.{SyntaxError}
 use Rattle.mon_command.specs.declared.reply.Reply.{Reply}
 use Rattle.mon_command.specs.declared.said.Said.{Said}

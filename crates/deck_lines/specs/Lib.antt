@@ -4,4 +4,5 @@ pub mod Codes
 pub mod Refusing
 pub mod Turns
 pub mod Commands
+pub mod Ties
 pub mod inner

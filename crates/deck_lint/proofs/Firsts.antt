@@ -4,7 +4,7 @@ use Rattle.std.specs.{Prelude.{option_map, replicate, slice_set}, Option.{option
 use Rattle.sno_cards.specs.{declared.refusal.SyntaxError.{SyntaxError}, Programs.{ProgramText}, Statements.{statements_of}, Texts.{Placed}}
 use Rattle.sno_syntax.specs.{Labels.{LabelList}, Refusals.{label_of, with_label, statement_refusal, statements_refusal, start_in, end_refusal, syntax_refusal}}
 use Rattle.mon_access.specs.{declared.account.Account.{Account}, Accounts.{find_account}}
-use Rattle.unit_ties.specs.{declared.unit_error.UnitError.{UnitError}, Ties.{refused_by}}
+use Rattle.deck_lines.specs.{declared.unit_error.UnitError.{UnitError}, Ties.{refused_by}}
 use Rattle.deck_syntax.specs.declared.job_deck.{UnitCard.{UnitCard}, JobDeck.{JobDeck}}
 use Rattle.load_refusal.specs.declared.load_error.LoadError.{LoadError, TheVariants.{NoAccount, Cards, Syntax}}
 use Rattle.load_refusal.specs.Loads.{program_refusal, missing, job_refusal, cards_refused as first_tie_refused}

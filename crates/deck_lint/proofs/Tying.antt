@@ -3,7 +3,7 @@ use Rattle.std.proofs.Common.{◌≡◌, ℕ, ◌+◌, ◌<◌, Bool, List, ◌�
 use Rattle.std.proofs.lemmas.List.{at_drop_more}
 use Rattle.deck_syntax.specs.declared.job_deck.UnitCard.{UnitCard}
 use Rattle.load_refusal.specs.declared.load_error.LoadError.{LoadError}
-use Rattle.unit_ties.specs.Ties.{refused_by}
+use Rattle.deck_lines.specs.Ties.{refused_by}
 use Rattle.deck_lint.specs.Refused.{tie_listed, tied_after, ties_refused}
 
 -- a card more: what was put so far, with the reasons of the cards that are left, is the whole

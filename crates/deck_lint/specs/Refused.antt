@@ -3,13 +3,13 @@ use Rattle.std.specs.Prelude.{ℕ, Bool, true, false, List, [], ◌∷◌, ◌++
 use Rattle.sno_cards.specs.Statements.{statements_of}
 use Rattle.mon_access.specs.declared.account.Account.{Account}
 use Rattle.mon_access.specs.Accounts.{find_account}
-use Rattle.unit_ties.specs.declared.unit_error.UnitError.{UnitError}
+use Rattle.deck_lines.specs.declared.unit_error.UnitError.{UnitError}
 use Rattle.deck_syntax.specs.declared.job_deck.UnitCard.{UnitCard}
 use Rattle.deck_syntax.specs.declared.job_deck.JobDeck.{JobDeck}
 use Rattle.load_refusal.specs.declared.load_error.LoadError.{LoadError}
 use Rattle.load_refusal.specs.declared.load_error.LoadError.TheVariants.{NoAccount, Cards}
 use Rattle.load_refusal.specs.Loads.{missing}
-use Rattle.unit_ties.specs.Ties.{refused_by}
+use Rattle.deck_lines.specs.Ties.{refused_by}
 use Rattle.program_listing.specs.Refused.{listed, program_refused}
 
 -- the first, if there is one

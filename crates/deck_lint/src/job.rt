@@ -4,6 +4,7 @@ use crate::advice::put_cause;
 use crate::column::word_column;
 use crate::refusals::all_refusals;
 use crate::reporter::{Detail, NO_COLUMN, NO_STATEMENT, Reporter, SourceSpan};
+use deck_lines::UnitError;
 use deck_syntax::{JobDeck, UnitCard};
 use load_refusal::LoadError;
 use mon_text::put_number;
@@ -14,7 +15,6 @@ use program_advice::{
 use program_listing::{LooseKind, LooseName, Source, loose_names, put_rows, read_source};
 use sno_syntax::{Place, SyntaxCode, SyntaxError};
 use std::alloc::{AllocError, Global};
-use unit_ties::UnitError;
 
 /// Where the cards of a job stand.
 #[derive(Drop)]

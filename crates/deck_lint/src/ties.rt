@@ -1,12 +1,12 @@
 //! Why unit cards are refused: each by itself.
 ghost use Rattle.std.specs.Prelude.{◌≡◌, ◌++◌, false, replicate, OnOk};
-ghost use Rattle.unit_ties.specs.Ties.{refused_by};
+ghost use Rattle.deck_lines.specs.Ties.{refused_by};
 ghost use Rattle.deck_lint.specs.Refused.{tie_listed, tied_after, ties_refused};
 
+use deck_lines::tie_refused;
 use deck_syntax::UnitCard;
 use load_refusal::LoadError;
 use std::alloc::AllocError;
-use unit_ties::tie_refused;
 
 // One card more: why it is refused; or its unit is tied.
 fn put_tie(unit: u64, tied: &mut [bool; 100], found: &mut Vec<LoadError>) -> Result<(), AllocError>

@@ -8,7 +8,7 @@ use Rattle.mon_acl.specs.declared.entries.Tag.TheVariants.{Mask}
 use Rattle.interaction.specs.declared.answer.Reason.TheVariants.{By, NoSet, NoUnit}
 use Rattle.mon_unit.specs.declared.note.{NoteAct.TheVariants.{Read, Write}, Why.TheVariants.{Denied, Full}}
 use Rattle.mon_unit.specs.declared.note.NoteTarget.TheVariants as target
-use Rattle.unit_ties.specs.declared.unit_error.UnitError.TheVariants.{UnitTwice}
+use Rattle.deck_lines.specs.declared.unit_error.UnitError.TheVariants.{UnitTwice}
 use Rattle.load_refusal.specs.declared.load_error.LoadError.TheVariants.{NoAccount, Cards, Syntax}
 use Rattle.job_end.specs.Printouts.{printout, refusal_text}
 

@@ -15,8 +15,8 @@ use Rattle.mon_unit.specs.declared.note.Why.{Why}
 use Rattle.mon_unit.specs.declared.note.Why.TheVariants.{Denied, Full}
 use Rattle.audit.specs.Words.{job_line}
 use Rattle.audit.specs.Requests.{act_word}
-use Rattle.unit_ties.specs.declared.unit_error.UnitError.{UnitError}
-use Rattle.unit_ties.specs.declared.unit_error.UnitError.TheVariants.{UnitRange, UnitTwice}
+use Rattle.deck_lines.specs.declared.unit_error.UnitError.{UnitError}
+use Rattle.deck_lines.specs.declared.unit_error.UnitError.TheVariants.{UnitRange, UnitTwice}
 use Rattle.job_end.specs.declared.job_end.JobEnd.{JobEnd}
 use Rattle.load_refusal.specs.declared.load_error.LoadError.{LoadError}
 use Rattle.load_refusal.specs.declared.load_error.LoadError.TheVariants.{NoSlot, NoAccount, Cards, Syntax}

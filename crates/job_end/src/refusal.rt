@@ -4,12 +4,12 @@ ghost use Rattle.mon_device.specs.Putting.{Puts};
 ghost use Rattle.job_end.specs.Printouts.{unit_refusal, syntax_words, refusal_words, refusal_text};
 
 use crate::printout::print_job_line;
+use deck_lines::UnitError;
 use load_refusal::LoadError;
 use mon_device::{Sink, TextSink, print_number};
 use mon_text::Name;
 use sno_syntax::SyntaxError;
 use std::alloc::AllocError;
-use unit_ties::UnitError;
 
 /// Puts what a job that is not loaded prints: its own line, and why. A job for which there was no slot prints nothing.
 pub fn print_refusal<S: Sink>(number: u64, account: &Name, error: LoadError, sink: &mut S)

@@ -7,8 +7,8 @@ use Rattle.sno_cards.specs.Statements.{statements_of}
 use Rattle.sno_syntax.specs.Refusals.{syntax_refusal}
 use Rattle.mon_access.specs.declared.account.Account.{Account}
 use Rattle.mon_access.specs.Accounts.{find_account}
-use Rattle.unit_ties.specs.declared.unit_error.UnitError.{UnitError}
-use Rattle.unit_ties.specs.Ties.{refused_by}
+use Rattle.deck_lines.specs.declared.unit_error.UnitError.{UnitError}
+use Rattle.deck_lines.specs.Ties.{refused_by}
 use Rattle.deck_syntax.specs.declared.job_deck.UnitCard.{UnitCard}
 use Rattle.deck_syntax.specs.declared.job_deck.JobDeck.{JobDeck}
 use Rattle.load_refusal.specs.declared.load_error.LoadError.{LoadError}

@@ -1,7 +1,7 @@
 //! Why a job is not loaded.
 
+use deck_lines::UnitError;
 use sno_syntax::SyntaxError;
-use unit_ties::UnitError;
 
 /// Why a job is not loaded.
 #[derive(Clone, Copy)]

@@ -80,4 +80,4 @@ pub use Rattle.std.proofs.lemmas.{List.Elements.{filter-append}, Slice.Eq.{bytes
 pub use Rattle.std.proofs.lemmas.Map.Keys.{IsDistinct-cons, IsDistinct-from_apart, IsDistinct-head, IsDistinct-push, IsDistinct-tail}
 pub use Rattle.std.specs.List.{AllByRecursion, IsDistinct, flat_map, list_all, list_any, position_from, range_with_len}
 pub use Rattle.std.specs.{Cmp.Lexicographic.{bytes_decides, nat_list_eq_equiv, pointwise}, Map.{keys_of}, Option.{option_and_then, option_flatten, option_or}}
-pub use Rattle.unit_ties.specs.declared.unit_error.UnitError.{UnitError}
+pub use Rattle.deck_lines.specs.declared.unit_error.UnitError.{UnitError}

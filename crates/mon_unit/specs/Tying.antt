@@ -7,8 +7,8 @@ use Rattle.std.specs.Prelude.{nat_eq}
 use Rattle.mon_unit.specs.declared.tie.Target.{Target}
 use Rattle.mon_unit.specs.declared.tie.Target.TheVariants.{Untied, Data, Spool, Set}
 use Rattle.mon_unit.specs.declared.tie.Tie.{Tie}
-use Rattle.unit_ties.specs.declared.unit_error.UnitError.{UnitError}
-use Rattle.unit_ties.specs.declared.unit_error.UnitError.TheVariants.{UnitRange, UnitTwice}
+use Rattle.deck_lines.specs.declared.unit_error.UnitError.{UnitError}
+use Rattle.deck_lines.specs.declared.unit_error.UnitError.TheVariants.{UnitRange, UnitTwice}
 use Rattle.mon_unit.specs.State.{UnitState}
 use Rattle.std.specs.Option.{unwrap_or}
 

@@ -10,9 +10,9 @@ pub mod service;
 pub mod tie;
 pub mod units;
 
+pub use deck_lines::UnitError;
 pub use mon_text::Lines;
 pub use note::{Note, NoteAct, NoteTarget, Notes, Why};
 pub use service::UnitService;
 pub use tie::{Target, Tie};
-pub use unit_ties::UnitError;
 pub use units::Units;

@@ -10,12 +10,12 @@ ghost use Rattle.mon_unit.specs.inner.Settling.{placed, target_of};
 
 use crate::note::{Attempt, Note, NoteTarget, Notes, Why};
 use crate::tie::{Target, Tie};
+use deck_lines::UnitError;
 use interaction::{Answer, Reason};
 use mon_text::{Line, Lines, Name};
 use packed_lines::PackedLines;
 use std::alloc::{AllocError, Global};
 use std::marker::Model;
-use unit_ties::UnitError;
 
 /// How many ties a job's units have: units are 1 to 99, and the number of a unit is the place of its tie.
 const TIES: u64 = 100;

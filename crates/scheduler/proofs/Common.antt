@@ -45,4 +45,4 @@ pub use Rattle.std.proofs.lemmas.{List.{at_drop_all, at_drop_more, length-map, t
 pub use Rattle.std.proofs.lemmas.{Option.{slice_get-map, slice_get_read}, Result.{IfErr-weaker, IfOk-weaker, err_from_is_err_and, on_ok_weaker}}
 pub use Rattle.std.specs.{Cmp.Lexicographic.{bytes_decides}, List.{AllByRecursion, list_all, list_any, position_from, range_with_len}, Result.{result_ok}}
 pub use Rattle.std.specs.Option.{option_flatten, option_map_or, option_or}
-pub use Rattle.unit_ties.specs.{Ties.{refused_by}, declared.unit_error.UnitError.{UnitError}, declared.unit_error.UnitError.TheVariants.{UnitRange, UnitTwice}}
+pub use Rattle.deck_lines.specs.{Ties.{refused_by}, declared.unit_error.UnitError.{UnitError}, declared.unit_error.UnitError.TheVariants.{UnitRange, UnitTwice}}

@@ -12,7 +12,7 @@ use Rattle.sno_run.specs.Jobs.{first_job}
 use Rattle.mon_access.specs.declared.account.Account.{Account}
 use Rattle.mon_access.specs.Accounts.{find_account}
 use Rattle.mon_unit.specs.declared.tie.Target.TheVariants.{Set}
-use Rattle.unit_ties.specs.declared.unit_error.UnitError.{UnitError}
+use Rattle.deck_lines.specs.declared.unit_error.UnitError.{UnitError}
 use Rattle.mon_unit.specs.State.{UnitState}
 use Rattle.mon_unit.specs.Tying.{new_units, tie_refusal, tied_to, with_tie}
 use Rattle.deck_syntax.specs.declared.job_deck.UnitCard.{UnitCard}

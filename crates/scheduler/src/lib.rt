@@ -21,6 +21,7 @@ mod single_job;
 mod slot;
 pub mod slots;
 
+pub use deck_lines::tie_refused;
 pub use deck_syntax::{JobDeck, JobLimits, UnitCard, UnitCards};
 pub use floor::Floor;
 pub use job_end::{
@@ -31,4 +32,3 @@ pub use largest_printout::Holder;
 pub use load_refusal::LoadError;
 pub use rounds::Goal;
 pub use slots::Slots;
-pub use unit_ties::tie_refused;

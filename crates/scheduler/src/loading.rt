@@ -15,6 +15,7 @@ ghost use Rattle.scheduler.specs.inner.Spelling.{IsSpelled};
 
 use crate::card_reserve::CardReserve;
 use crate::slot::Slot;
+use deck_lines::{UnitError, tie_refused};
 use deck_syntax::{JobDeck, UnitCard, UnitCards};
 use load_refusal::LoadError;
 use mon_access::{Account, Accounts};
@@ -24,7 +25,6 @@ use sno_run::Job;
 use sno_syntax::{Program, ProgramCards, parse, statements};
 use sno_text::Seed;
 use std::alloc::{AllocError, Global};
-use unit_ties::{UnitError, tie_refused};
 
 // Why unit cards are refused, if they are: the first that ties a unit that there is not, or one that another tied. It takes no
 // memory.

@@ -1,6 +1,6 @@
 //! Why a unit can't be tied to a data set.
 ghost use Rattle.std.specs.Prelude.{◌≡◌, ◌<◌, None};
-ghost use Rattle.unit_ties.specs.Ties.{refused_by};
+ghost use Rattle.deck_lines.specs.Ties.{refused_by};
 
 use thiserror::Error;
 
