@@ -6,9 +6,9 @@ use Rattle.sno_lexer.specs.declared.token.TokenKind.TheVariants as token
 use Rattle.sno_expression.specs.declared.tree.BinaryOperator.{BinaryOperator, TheVariants.{Concatenation}}
 use Rattle.sno_expression.specs.{declared.tree.Expression.{Expression as AnExpression}, Marks.{operator_of, needs_variable}, Spelling.{spaced}}
 use Rattle.sno_expression.{specs.Expressions.{Expression, Identifier, Constant}, specs.Abstraction.{expression_of}, proofs.Loop.{with_none}}
-use Rattle.sno_expression.specs.inner.Telling.{begins_variable, follows, lack_at, fits_at, Told, Tells, then_tell, told, telling}
-use Rattle.sno_expression.specs.inner.First.{is_apart, plain, Joint, Joins, operand_behind, marked_operand, joined_by, next_operand}
-use Rattle.sno_expression.specs.inner.Reading.{State, At, Stack, Bottom, Hole, Begin, After, Named, Whole, Due, push, fill, joined, begin, first, after, opened, read, ended, result, parens, inner_of, stops, opens_bracket, variable_due, start}
+use Rattle.sno_expression.specs.inner.Telling.{begins_variable, onward, lack_at, fits_at, Told, Tells, then_tell, told, telling}
+use Rattle.sno_expression.specs.inner.First.{is_apart, plain, Joint, Joins, operand_by, marked_operand, joined_by, next_operand}
+use Rattle.sno_expression.specs.inner.Reading.{State, At, Stack, Bottom, Hole, Begin, After, Named, Whole, Due, push, fill, joined, begin, first, after, opened, read, ended, result, opens_bracket, variable_due, start}
 
 touches_none : (b : Bool) (k : TokenKind) → opens_bracket false k ≡ false → opens_bracket b k ≡ false
 touches_none b token.Open e = cc
@@ -29,10 +29,9 @@ named_whole alone st h n [] a = refl
 named_whole alone st h n (t ∷ ts) a =
     let f : opens_bracket false t.kind ≡ false = not_true (opens_bracket false t.kind) a in
     let x = fill h (Identifier n) in
-    let q = not (stops alone (inner_of (parens st))) && follows (inner_of (parens st)) t.kind in
     let to = λ (touches may lacks : Bool). then_tell
     (if touches then Some (At (opened n h st t.kind) (Due Begin)) else after alone st x t.blank_before t.blank_after t.kind)
-    (Tells (ended st x) (t ∷ ts) 0 (may || q)) (if lacks then length (t ∷ ts) + 1 else 0) (λ v. told alone v ts) in
+    (Tells (ended st x) (t ∷ ts) 0 (onward alone st may t.kind)) (if lacks then length (t ∷ ts) + 1 else 0) (λ v. told alone v ts) in
     ap₂ (λ (b c : Bool). to b c (variable_due h && b)) (touches_none t.blank_before t.kind f) f
     ∙ ap (to false false) (and_false (variable_due h))
 
@@ -88,7 +87,7 @@ alone_told (t ∷ ts) x = refl
 abbrev pub GoesOn : Expression → List Token → Joint → Type 0
 GoesOn e ts (Joins o x n) = (told false (At Bottom (Whole e)) ts ≡ told false (At Bottom (Whole (push o x e))) (drop n ts)) × (0 < n) × (n ≤ length ts)
 
-operand_goes : (e : Expression) (o : BinaryOperator) (n : ℕ) (q : Option Expression) (ts : List Token) (j : Joint) → operand_behind o n q ≡ Some j
+operand_goes : (e : Expression) (o : BinaryOperator) (n : ℕ) (q : Option Expression) (ts : List Token) (j : Joint) → operand_by o n q ≡ Some j
     → ((x : Expression) → q ≡ Some x → GoesOn e ts (Joins o x n)) → GoesOn e ts j
 operand_goes e o n None ts j d on = cc
 operand_goes e o n (Some x) ts j d on = let c : Joins o x n ≡ j = cc in subst (GoesOn e ts) c (on x refl)
@@ -117,7 +116,7 @@ marked_goes e m None ts j d n = cc
 marked_goes e m (Some o) [] j d n = cc
 marked_goes e m (Some o) (v ∷ ts) j d n = at (not v.blank_before || (needs_variable o && not (begins_variable v.kind))) refl n
   where
-    at : (c : Bool) → (not v.blank_before || (needs_variable o && not (begins_variable v.kind))) ≡ c → (if c then None else operand_behind o 2 (plain v.kind ts)) ≡ Some j
+    at : (c : Bool) → (not v.blank_before || (needs_variable o && not (begins_variable v.kind))) ≡ c → (if c then None else operand_by o 2 (plain v.kind ts)) ≡ Some j
         → GoesOn e (spaced true true (token.Mark m) ∷ v ∷ ts) j
     at true f h = cc
     at false f h = operand_goes e o 2 (plain v.kind ts) (spaced true true (token.Mark m) ∷ v ∷ ts) j h (λ x p. mark_goes e m o v ts x d f p)

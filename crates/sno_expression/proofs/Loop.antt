@@ -2,23 +2,23 @@
 use Rattle.std.proofs.Common.{arith, ◌≡◌, ℕ, zero, suc, ◌+◌, ◌-◌, ◌<◌, length, List, [], ◌∷◌, drop, get_or, refl, sym, ap, ◌∙◌, add-one, drop-cons}
 use Rattle.std.{specs.Prelude.{Bool, true, false, nat_le, Option, Some, None, if◌then◌else◌}, proofs.lemmas.Bool.Decides.{nat_tests}}
 use Rattle.sno_lexer.specs.declared.token.Token.{Token}
-use Rattle.sno_expression.specs.{Expressions.{Expression}, inner.Reading.{State, read, result}, inner.Told.{Next, End, stepped}}
+use Rattle.sno_expression.specs.{Expressions.{Expression}, inner.Reading.{State, read, result}, inner.Told.{Next, End, stepped, reading}}
 use Rattle.sno_expression.specs.inner.Telling.{most, lack_at, fits_at, Told, Tells, with_lack, then_tell, told}
 
 pub more : (ts : List Token) (i : ℕ) (t : Token) → i < length ts → t ≡ get_or ts i t → drop i ts ≡ t ∷ drop (i + 1) ts
 more ts i t lt e = rw add-one (drop-cons ts i t lt ∙ ap (λ (u : Token). u ∷ drop (suc i) ts) (sym e))
 
-next_step : (o : Option State) (r : Option Expression) (v : State) → Next v ≡ stepped o r → o ≡ Some v
-next_step None r v e = cc
-next_step (Some s) r v e = cc
+next_step : (o : Option State) (r : Option Expression) (b : Bool) (v : State) → Next v ≡ stepped o r b → o ≡ Some v
+next_step None r b v e = cc
+next_step (Some s) r b v e = cc
 
-end_step : (o : Option State) (r t : Option Expression) → End t ≡ stepped o r → o ≡ None
-end_step None r t e = refl
-end_step (Some s) r t e = cc
+end_step : (o : Option State) (r t : Option Expression) (b w : Bool) → End t w ≡ stepped o r b → o ≡ None
+end_step None r t b w e = refl
+end_step (Some s) r t b w e = cc
 
-end_tree : (o : Option State) (r t : Option Expression) → End t ≡ stepped o r → t ≡ r
-end_tree None r t e = cc
-end_tree (Some s) r t e = cc
+end_tree : (o : Option State) (r t : Option Expression) (b w : Bool) → End t w ≡ stepped o r b → (t ≡ r) × (w ≡ b)
+end_tree None r t b w e = (cc, cc)
+end_tree (Some s) r t b w e = cc
 
 -- places further left
 le_le : (i j k : ℕ) → nat_le i j ≡ true → nat_le j k ≡ true → nat_le i k ≡ true
@@ -61,24 +61,25 @@ abbrev from_here : Bool → State → Token → List Token → Option State → 
 from_here alone s t m o = then_tell o (Tells (result s) (t ∷ m) 0 (fits_at alone s t.kind)) (lack_at s t (length (t ∷ m))) (λ v. told alone v m)
 
 -- a token is read
-pub on_next : (alone : Bool) (s v : State) (t : Token) (ts m : List Token) (l n : ℕ) (a : Told) → ts ≡ t ∷ m → Next v ≡ stepped (read alone s t) (result s)
+pub on_next : (alone : Bool) (s v : State) (t : Token) (ts m : List Token) (l n : ℕ) (a : Told) → ts ≡ t ∷ m → Next v ≡ reading alone s t
     → n ≡ most l (lack_at s t (length ts)) → a ≡ with_lack l (told alone s ts) → a ≡ with_lack n (told alone v m)
 on_next alone s v t ts m l n a d e c h =
     h ∙ (ap (λ (x : List Token). with_lack l (told alone s x)) d
-    ∙ (ap (λ (o : Option State). with_lack l (from_here alone s t m o)) (next_step (read alone s t) (result s) v e)
+    ∙ (ap (λ (o : Option State). with_lack l (from_here alone s t m o)) (next_step (read alone s t) (result s) (fits_at alone s t.kind) v e)
     ∙ (with_both l (lack_at s t (length (t ∷ m))) (told alone v m)
     ∙ (ap (λ (x : List Token). with_lack (most l (lack_at s t (length x))) (told alone v m)) (sym d)
     ∙ ap (λ (x : ℕ). with_lack x (told alone v m)) (sym c)))))
 
 -- a token is not taken
 pub on_end : (alone : Bool) (s : State) (u : Option Expression) (t : Token) (ts m : List Token) (l : ℕ) (b : Bool) (a : Told) → ts ≡ t ∷ m
-    → End u ≡ stepped (read alone s t) (result s) → b ≡ fits_at alone s t.kind → a ≡ with_lack l (told alone s ts) → Tells u ts l b ≡ a
-on_end alone s u t ts m l b a d e c h =
+    → End u b ≡ reading alone s t → a ≡ with_lack l (told alone s ts) → Tells u ts l b ≡ a
+on_end alone s u t ts m l b a d e h =
+    let q = end_tree (read alone s t) (result s) u (fits_at alone s t.kind) b e in
     ap (λ (x : List Token). Tells u x l b) d
-    ∙ (ap (λ (x : Option Expression). Tells x (t ∷ m) l b) (end_tree (read alone s t) (result s) u e)
-    ∙ (ap (Tells (result s) (t ∷ m) l) c
+    ∙ (ap (λ (x : Option Expression). Tells x (t ∷ m) l b) q.0
+    ∙ (ap (Tells (result s) (t ∷ m) l) q.1
     ∙ (ap (λ (x : ℕ). Tells (result s) (t ∷ m) x (fits_at alone s t.kind)) (sym (most_none l))
-    ∙ (sym (ap (λ (o : Option State). with_lack l (from_here alone s t m o)) (end_step (read alone s t) (result s) u e))
+    ∙ (sym (ap (λ (o : Option State). with_lack l (from_here alone s t m o)) (end_step (read alone s t) (result s) u (fits_at alone s t.kind) b e))
     ∙ (sym (ap (λ (x : List Token). with_lack l (told alone s x)) d) ∙ sym h)))))
 
 -- there are no more tokens

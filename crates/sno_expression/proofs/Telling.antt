@@ -1,6 +1,6 @@
 -- What fits is what is taken with some blanks.
-use Rattle.std.proofs.Common.{◌≡◌, refl, ◌∙◌}
-use Rattle.std.specs.Prelude.{Bool, true, false, Option, Some, None, is_some, ◌||◌, ◌&&◌, not, if◌then◌else◌}
+use Rattle.std.proofs.Common.{◌≡◌, refl, sym, ◌∙◌}
+use Rattle.std.specs.Prelude.{Bool, true, false, Option, Some, None, is_some, if◌then◌else◌}
 use Rattle.sno_lexer.specs.declared.token.{Mark.{Mark}, Part.{Part}, TokenKind.{TokenKind}}
 use Rattle.sno_lexer.specs.declared.token.Mark.TheVariants as mark
 use Rattle.sno_lexer.specs.declared.token.TokenKind.TheVariants as token
@@ -9,16 +9,8 @@ use Rattle.sno_expression.specs.declared.tree.UnaryOperator.TheVariants as unary
 use Rattle.sno_expression.specs.declared.tree.IdentifierPrefix.TheVariants as prefix
 use Rattle.sno_expression.specs.{declared.tree.Prefix.{Prefix}, declared.tree.Prefix.TheVariants.{OfOperand, OfIdentifier}, Marks.{prefix_of}}
 use Rattle.sno_expression.specs.{Expressions.{Expression, Identifier, Constant, Group, Call, Omitted, Argument, TableItem}, Spelling.{spaced}}
-use Rattle.sno_expression.specs.inner.Telling.{begins, ends_argument, follows, fits_at}
-use Rattle.sno_expression.specs.inner.Reading.{Hole, Begin, After, Under, fill, Stack, Bottom, InGroup, InCall, InItem, Due, Prefixed, Named, Whole, State, At, with_prefix, prefixed, begin, first, go_on, closed, after, read, inner_of, parens, opens_bracket, opened, start}
-
-or_left : (x y : Bool) → x ≡ true → (x || y) ≡ true
-or_left true y e = refl
-or_left false y e = cc
-
-or_right : (x y : Bool) → y ≡ true → (x || y) ≡ true
-or_right true y e = refl
-or_right false y e = e
+use Rattle.sno_expression.specs.inner.Telling.{begins, is_call, starts_in, goes_on, onward, fits_at}
+use Rattle.sno_expression.specs.inner.Reading.{Hole, Begin, After, Under, fill, Stack, Bottom, InGroup, InCall, InItem, Due, Prefixed, Named, Whole, State, At, with_prefix, prefixed, begin, first, go_on, closed, after, read, opens_bracket, opened, start}
 
 -- TAKEN, SO IT FITS
 
@@ -34,7 +26,7 @@ begun_fits st h false (token.Mark m) v e = at (prefix_of m) e
     at (Some p) d = refl
 begun_fits st h a _ v e = cc
 
-first_fits : (st : Stack) (a : Bool) (k : TokenKind) (v : State) → first st a k ≡ Some v → (begins false k || ends_argument (inner_of (parens st)) k) ≡ true
+first_fits : (st : Stack) (a : Bool) (k : TokenKind) (v : State) → first st a k ≡ Some v → starts_in st k ≡ true
 first_fits Bottom a token.Close v e = cc
 first_fits (InGroup h st) a token.Close v e = cc
 first_fits (InCall f args h st) a token.Close v e = refl
@@ -43,7 +35,7 @@ first_fits Bottom a token.Comma v e = cc
 first_fits (InGroup h st) a token.Comma v e = cc
 first_fits (InCall f args h st) a token.Comma v e = refl
 first_fits (InItem n h st) a token.Comma v e = cc
-first_fits st a k v e = or_left (begins false k) (ends_argument (inner_of (parens st)) k) (begun_fits st Begin a k v e)
+first_fits st a k v e = begun_fits st Begin a k v e
 
 no_angle : (st : Stack) (t : Expression) (b a : Bool) → go_on st t b a token.OpenAngle ≡ None
 no_angle st t true a = refl
@@ -53,29 +45,34 @@ no_part : (st : Stack) (t : Expression) (b a : Bool) (p : Part) → go_on st t b
 no_part st t true a p = refl
 no_part st t false a p = refl
 
-gone_fits : (st : Stack) (t : Expression) (b a : Bool) (k : TokenKind) (v : State) → go_on st t b a k ≡ Some v → follows (inner_of (parens st)) k ≡ true
-gone_fits st t b a token.OpenAngle v e = cc (no_angle st t b a)
-gone_fits st t b a (token.Part p) v e = cc (no_part st t b a p)
-gone_fits Bottom t b a token.Close v e = cc
-gone_fits Bottom t b a token.Comma v e = cc
-gone_fits Bottom t b a token.CloseAngle v e = cc
-gone_fits Bottom t b a _ v e = refl
-gone_fits (InGroup h st) t b a token.Comma v e = cc
-gone_fits (InGroup h st) t b a token.CloseAngle v e = cc
-gone_fits (InGroup h st) t b a _ v e = refl
-gone_fits (InCall f args h st) t b a token.CloseAngle v e = cc
-gone_fits (InCall f args h st) t b a _ v e = refl
-gone_fits (InItem n h st) t b a token.Close v e = cc
-gone_fits (InItem n h st) t b a token.Comma v e = cc
-gone_fits (InItem n h st) t b a _ v e = refl
+gone_fits : (st : Stack) (t : Expression) (w b a : Bool) (k : TokenKind) (v : State) → go_on st t b a k ≡ Some v → goes_on st w k ≡ true
+gone_fits st t w b a token.OpenAngle v e = cc (no_angle st t b a)
+gone_fits st t w b a (token.Part p) v e = cc (no_part st t b a p)
+gone_fits Bottom t w b a token.Close v e = cc
+gone_fits Bottom t w b a token.Comma v e = cc
+gone_fits Bottom t w b a token.CloseAngle v e = cc
+gone_fits Bottom t w b a _ v e = refl
+gone_fits (InGroup h st) t w b a token.Comma v e = cc
+gone_fits (InGroup h st) t w b a token.CloseAngle v e = cc
+gone_fits (InGroup h st) t w b a _ v e = refl
+gone_fits (InCall f args h st) t w b a token.CloseAngle v e = cc
+gone_fits (InCall f args h st) t w b a _ v e = refl
+gone_fits (InItem n h st) t w b a token.Close v e = cc
+gone_fits (InItem n h st) t w b a token.Comma v e = cc
+gone_fits (InItem n h st) t w b a _ v e = refl
 
-after_fits : (alone : Bool) (st : Stack) (t : Expression) (b a : Bool) (k : TokenKind) (v : State) → after alone st t b a k ≡ Some v
-    → (not (closed alone st) && follows (inner_of (parens st)) k) ≡ true
-after_fits alone st t b a k v e = at (closed alone st) e
+after_fits : (alone : Bool) (st : Stack) (t : Expression) (w b a : Bool) (k : TokenKind) (v : State) → after alone st t b a k ≡ Some v → onward alone st w k ≡ true
+after_fits alone st t w b a k v e = at (closed alone st) e
   where
-    at : (c : Bool) → (if c then None else go_on st t b a k) ≡ Some v → (not c && follows (inner_of (parens st)) k) ≡ true
+    at : (c : Bool) → (if c then None else go_on st t b a k) ≡ Some v → (if c then w else goes_on st w k) ≡ true
     at true d = cc
-    at false d = gone_fits st t b a k v d
+    at false d = gone_fits st t w b a k v d
+
+opened_fits : (c : Bool) (st : Stack) (k : TokenKind) → opens_bracket false k ≡ true → (if c then opens_bracket false k else goes_on st (opens_bracket false k) k) ≡ true
+opened_fits true st k e = e
+opened_fits false st token.Open e = refl
+opened_fits false st token.OpenAngle e = refl
+opened_fits false st _ e = cc
 
 opens_touching : (b : Bool) (k : TokenKind) → opens_bracket b k ≡ true → opens_bracket false k ≡ true
 opens_touching b token.Open e = refl
@@ -93,10 +90,10 @@ taken_fits alone (At st (Prefixed h w)) b a _ v e = cc
 taken_fits alone (At st (Named h n)) b a k v e = at (opens_bracket b k) refl e
   where
     at : (c : Bool) → opens_bracket b k ≡ c → (if c then Some (At (opened n h st k) (Due Begin)) else after alone st (fill h (Identifier n)) b a k) ≡ Some v
-        → (opens_bracket false k || (not (closed alone st) && follows (inner_of (parens st)) k)) ≡ true
-    at true d f = or_left (opens_bracket false k) (not (closed alone st) && follows (inner_of (parens st)) k) (opens_touching b k d)
-    at false d f = or_right (opens_bracket false k) (not (closed alone st) && follows (inner_of (parens st)) k) (after_fits alone st (fill h (Identifier n)) b a k v f)
-taken_fits alone (At st (Whole t)) b a k v e = after_fits alone st t b a k v e
+        → onward alone st (opens_bracket false k) k ≡ true
+    at true d f = opened_fits (closed alone st) st k (opens_touching b k d)
+    at false d f = after_fits alone st (fill h (Identifier n)) (opens_bracket false k) b a k v f
+taken_fits alone (At st (Whole t)) b a k v e = after_fits alone st t false b a k v e
 
 -- IT FITS, SO IT IS TAKEN WITH SOME BLANKS
 
@@ -133,20 +130,25 @@ begins_any a (token.Constant c) e = refl
 begins_any a token.Open e = refl
 begins_any a _ e = cc
 
-or_false : (x : Bool) → (x || false) ≡ true → x ≡ true
-or_false true e = refl
-or_false false e = e
-
 begun_first : (alone : Bool) (st : Stack) (k : TokenKind) → begins false k ≡ true → IsTaken alone (At st (Due Begin)) k
 begun_first alone st k d = let v = fits_begun st Begin false k d in (false, false, v.0, first_begins st false k d ∙ v.1)
 
-fits_first : (alone : Bool) (st : Stack) (k : TokenKind) → (begins false k || ends_argument (inner_of (parens st)) k) ≡ true → IsTaken alone (At st (Due Begin)) k
+-- outside a call nothing but an operand begins
+starts_begins : (st : Stack) (k : TokenKind) → is_call st ≡ false → starts_in st k ≡ begins false k
+starts_begins st token.Comma e = e
+starts_begins st token.Close e = e
+starts_begins st _ e = refl
+
+pub start_begins : (k : TokenKind) → starts_in Bottom k ≡ begins false k
+start_begins k = starts_begins Bottom k refl
+
+fits_first : (alone : Bool) (st : Stack) (k : TokenKind) → starts_in st k ≡ true → IsTaken alone (At st (Due Begin)) k
 fits_first alone (InCall f args h st) token.Close e = (false, false, At st (Whole (fill h (Call f (Omitted args)))), refl)
 fits_first alone (InCall f args h st) token.Comma e = (false, false, At (InCall f (Omitted args) h st) (Due Begin), refl)
-fits_first alone Bottom k e = begun_first alone Bottom k (or_false (begins false k) e)
-fits_first alone (InGroup h st) k e = begun_first alone (InGroup h st) k (or_false (begins false k) e)
-fits_first alone (InItem n h st) k e = begun_first alone (InItem n h st) k (or_false (begins false k) e)
-fits_first alone (InCall f args h st) k e = begun_first alone (InCall f args h st) k (or_false (begins false k) e)
+fits_first alone Bottom k e = begun_first alone Bottom k (sym (starts_begins Bottom k refl) ∙ e)
+fits_first alone (InGroup h st) k e = begun_first alone (InGroup h st) k (sym (starts_begins (InGroup h st) k refl) ∙ e)
+fits_first alone (InItem n h st) k e = begun_first alone (InItem n h st) k (sym (starts_begins (InItem n h st) k refl) ∙ e)
+fits_first alone (InCall f args h st) k e = begun_first alone (InCall f args h st) k e
 
 go_mark : (st : Stack) (t : Expression) (m : Mark) → (a : Bool) × (v : State) × (go_on st t true a (token.Mark m) ≡ Some v)
 go_mark st t mark.Power = (true, At st (Due (After t operator.Power)), refl)
@@ -162,7 +164,7 @@ go_mark st t mark.Tilde = (false, At st (Due (Under unary.Not (After t operator.
 go_mark st t mark.Question = (false, At st (Due (Under unary.Query (After t operator.Concatenation))), refl)
 go_mark st t mark.Ampersand = (false, At st (Prefixed (After t operator.Concatenation) prefix.Keyword), refl)
 
-fits_gone : (st : Stack) (t : Expression) (k : TokenKind) → follows (inner_of (parens st)) k ≡ true → (a : Bool) × (v : State) × (go_on st t true a k ≡ Some v)
+fits_gone : (st : Stack) (t : Expression) (k : TokenKind) → goes_on st false k ≡ true → (a : Bool) × (v : State) × (go_on st t true a k ≡ Some v)
 fits_gone st t (token.Identifier n) e = (false, At st (Named (After t operator.Concatenation) n), refl)
 fits_gone st t (token.Constant c) e = (false, At st (Whole (fill (After t operator.Concatenation) (Constant c))), refl)
 fits_gone st t token.Open e = (false, At (InGroup (After t operator.Concatenation) st) (Due Begin), refl)
@@ -176,11 +178,11 @@ fits_gone (InGroup h st) t _ e = cc
 fits_gone (InCall f args h st) t _ e = cc
 fits_gone (InItem n h st) t _ e = cc
 
-fits_after : (alone : Bool) (st : Stack) (t : Expression) (k : TokenKind) → (not (closed alone st) && follows (inner_of (parens st)) k) ≡ true
+fits_after : (alone : Bool) (st : Stack) (t : Expression) (k : TokenKind) → onward alone st false k ≡ true
     → (a : Bool) × (v : State) × (after alone st t true a k ≡ Some v)
 fits_after alone st t k e = at (closed alone st) e
   where
-    at : (c : Bool) → (not c && follows (inner_of (parens st)) k) ≡ true → (a : Bool) × (v : State) × ((if c then None else go_on st t true a k) ≡ Some v)
+    at : (c : Bool) → (if c then false else goes_on st false k) ≡ true → (a : Bool) × (v : State) × ((if c then None else go_on st t true a k) ≡ Some v)
     at true d = cc
     at false d = fits_gone st t k d
 
@@ -194,7 +196,7 @@ fits_taken alone (At st (Named h n)) token.Open e = (false, false, At (opened n 
 fits_taken alone (At st (Named h n)) token.OpenAngle e = (false, false, At (opened n h st token.OpenAngle) (Due Begin), refl)
 fits_taken alone (At st (Named h n)) k e = by k e
   where
-    by : (k : TokenKind) → (opens_bracket false k || (not (closed alone st) && follows (inner_of (parens st)) k)) ≡ true → IsTaken alone (At st (Named h n)) k
+    by : (k : TokenKind) → onward alone st (opens_bracket false k) k ≡ true → IsTaken alone (At st (Named h n)) k
     by token.Open d = (false, false, At (opened n h st token.Open) (Due Begin), refl)
     by token.OpenAngle d = (false, false, At (opened n h st token.OpenAngle) (Due Begin), refl)
     by k d = let v = fits_after alone st (fill h (Identifier n)) k d in (true, v.0, v.1, v.2)

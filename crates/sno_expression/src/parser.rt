@@ -1,17 +1,19 @@
-//! The walk with the trees that it makes.
+//! The reading of one expression.
 
-ghost use Rattle.std.specs.Prelude.{◌≡◌, ◌≤◌, IfOk, IfSome, length, drop, true, false, Some, None};
+ghost use Rattle.std.specs.Prelude.{◌≡◌, ◌≤◌, ◌<◌, IfOk, IfSome, length, drop, true, false, Some, None};
 ghost use Rattle.sno_expression.specs.Expressions as expressions;
 ghost use Rattle.sno_expression.specs.inner.Spines.{is_element};
-ghost use Rattle.sno_expression.specs.inner.Reading.{fill, prefixed, begin, close, close_angle, comma, first, go_on, closed, after, due, omitted, omitted_last, after_prefix, named, read, ended, result as result_of, inner_of, parens, position, variable_due};
+ghost use Rattle.sno_expression.specs.inner.Reading.{fill, prefixed, begin, close, close_angle, comma, first, go_on, closed, after};
+ghost use Rattle.sno_expression.specs.inner.Reading.{omitted, omitted_last, after_prefix, ended, variable_due, result as result_of};
+ghost use Rattle.sno_expression.specs.inner.Telling.{lack_at, begins, is_identifier, is_call, starts_in, ends_in, goes_on, onward};
 ghost use Rattle.sno_expression.specs.inner.Telling.{told, telling, Tells};
-ghost use Rattle.sno_expression.specs.inner.First.{is_apart, plain, operand_behind, marked_operand, next_operand};
+ghost use Rattle.sno_expression.specs.inner.First.{is_apart, plain, operand_by, marked_operand, next_operand};
 ghost use Rattle.sno_expression.specs.inner.Reading as states;
 ghost use Rattle.sno_expression.specs.Abstraction.{expression_of, arguments_of, expressions_of};
-ghost use Rattle.sno_expression.specs.inner.Told.{spine_tree, hole_of, stack_of, spot_of, state_of, stepped, step_of, Next, End, joint_of};
+ghost use Rattle.sno_expression.specs.inner.Told.{spine_tree, hole_of, stack_of, state_of, stepped, or_ended, reading, step_of, Next, End, joint_of, told_of};
 
 use crate::growing::{add_argument, omit_argument, tree_of, with_prefix};
-use crate::position::{Paren, Position, begins_variable, fits, lack, most, opens_bracket, stops};
+use crate::position::{begins, begins_variable, most, opens_bracket};
 use crate::pushing::{closed as closed_tree, extend, grow};
 use crate::spine::{Plain, Spine};
 use crate::tree::{
@@ -70,8 +72,8 @@ pub(crate) struct State {
 #[derive(Drop)]
 pub(crate) enum Step {
     Next(State),
-    /// It is not taken: the tree, where one is complete.
-    End(Option<Expression>),
+    /// It is not taken: the tree, where one is complete, and whether it would be taken with other blanks round it.
+    End(Option<Expression>, bool),
 }
 
 /// How far plain operands have led.
@@ -156,11 +158,11 @@ fn complete(alloc: Global, stack: Stack, spine: Spine) -> Result<Option<Expressi
 
 // A token that is not taken after a whole operand.
 #[inline(always)]
-fn stop(alloc: Global, stack: Stack, spine: Spine) -> Result<Step, AllocError>
-    ensures { IfOk result (λ s. step_of s ≡ End (ended (stack_of stack) (spine_tree spine))) }
+fn stop(alloc: Global, stack: Stack, spine: Spine, blank: bool) -> Result<Step, AllocError>
+    ensures { IfOk result (λ s. step_of s ≡ End (ended (stack_of stack) (spine_tree spine)) blank) }
 {
     let tree = complete(alloc, stack, spine)?;
-    Ok(Step::End(tree))
+    Ok(Step::End(tree, blank))
 }
 
 #[inline(always)]
@@ -170,7 +172,7 @@ fn prefix_begins(
     hole: Hole,
     prefix: Prefix,
 ) -> Result<Step, AllocError>
-    ensures { IfOk result (λ s. step_of s ≡ stepped (prefixed (stack_of stack) (hole_of hole) (Some prefix)) None) }
+    ensures { IfOk result (λ s. step_of s ≡ stepped (prefixed (stack_of stack) (hole_of hole) (Some prefix)) None true) }
 {
     match prefix {
         Prefix::OfOperand(unary) => {
@@ -196,7 +198,7 @@ fn begin(
     after: bool,
     kind: &TokenKind,
 ) -> Result<Step, AllocError>
-    ensures { IfOk result (λ s. step_of s ≡ stepped (begin (stack_of stack) (hole_of hole) after kind.now) None) }
+    ensures { IfOk result (λ s. step_of s ≡ stepped (begin (stack_of stack) (hole_of hole) after kind.now) None (begins false kind.now)) }
 {
     match kind {
         TokenKind::Identifier(name) => {
@@ -210,15 +212,15 @@ fn begin(
             let constant = tree_of(alloc, constant)?;
             whole(alloc, stack, hole, constant)
         }
-        TokenKind::Mark(mark) => {
-            if after {
-                return Ok(Step::End(None));
+        TokenKind::Mark(mark) => match prefix_of(*mark) {
+            Some(prefix) => {
+                if after {
+                    return Ok(Step::End(None, true));
+                }
+                prefix_begins(alloc, stack, hole, prefix)
             }
-            match prefix_of(*mark) {
-                Some(prefix) => prefix_begins(alloc, stack, hole, prefix),
-                None => Ok(Step::End(None)),
-            }
-        }
+            None => Ok(Step::End(None, false)),
+        },
         TokenKind::Open => {
             let frame = Box::new(alloc, Frame::InGroup(hole, stack))?;
             Ok(Step::Next(State {
@@ -226,7 +228,7 @@ fn begin(
                 spot: Spot::Due(Hole::Begin),
             }))
         }
-        _ => Ok(Step::End(None)),
+        _ => Ok(Step::End(None, false)),
     }
 }
 
@@ -246,11 +248,11 @@ fn call_ends(
 }
 
 fn close(alloc: Global, stack: Stack, spine: Spine) -> Result<Step, AllocError>
-    ensures { IfOk result (λ s. step_of s ≡ stepped (close (stack_of stack) (spine_tree spine)) (ended (stack_of stack) (spine_tree spine))) }
+    ensures { IfOk result (λ s. step_of s ≡ or_ended stack spine close (ends_in (stack_of stack) TokenKind.Close)) }
 {
     let tree = closed_tree(alloc, spine)?;
     match stack {
-        Stack::Bottom => Ok(Step::End(Some(tree))),
+        Stack::Bottom => Ok(Step::End(Some(tree), false)),
         Stack::Above(frame) => match Box::into_inner(frame) {
             Frame::InGroup(hole, below) => {
                 let tree = Box::new(alloc, tree)?;
@@ -260,20 +262,20 @@ fn close(alloc: Global, stack: Stack, spine: Spine) -> Result<Step, AllocError>
                 let arguments = add_argument(alloc, arguments, tree)?;
                 call_ends(alloc, name, arguments, hole, below)
             }
-            Frame::InItem(_, _, _) => Ok(Step::End(None)),
+            Frame::InItem(_, _, _) => Ok(Step::End(None, false)),
         },
     }
 }
 
 fn close_angle(alloc: Global, stack: Stack, spine: Spine) -> Result<Step, AllocError>
-    ensures { IfOk result (λ s. step_of s ≡ stepped (close_angle (stack_of stack) (spine_tree spine)) (ended (stack_of stack) (spine_tree spine))) }
+    ensures { IfOk result (λ s. step_of s ≡ or_ended stack spine close_angle (ends_in (stack_of stack) TokenKind.CloseAngle)) }
 {
     let tree = closed_tree(alloc, spine)?;
     match stack {
-        Stack::Bottom => Ok(Step::End(Some(tree))),
+        Stack::Bottom => Ok(Step::End(Some(tree), false)),
         Stack::Above(frame) => match Box::into_inner(frame) {
-            Frame::InGroup(_, _) => Ok(Step::End(None)),
-            Frame::InCall(_, _, _, _) => Ok(Step::End(None)),
+            Frame::InGroup(_, _) => Ok(Step::End(None, false)),
+            Frame::InCall(_, _, _, _) => Ok(Step::End(None, false)),
             Frame::InItem(name, hole, below) => {
                 let item = Box::new(alloc, TableItem { name, key: tree })?;
                 whole(alloc, below, hole, Expression::TableItem(item))
@@ -301,52 +303,52 @@ fn argument_begins(
 }
 
 fn comma(alloc: Global, stack: Stack, spine: Spine) -> Result<Step, AllocError>
-    ensures { IfOk result (λ s. step_of s ≡ stepped (comma (stack_of stack) (spine_tree spine)) (ended (stack_of stack) (spine_tree spine))) }
+    ensures { IfOk result (λ s. step_of s ≡ or_ended stack spine comma (ends_in (stack_of stack) TokenKind.Comma)) }
 {
     let tree = closed_tree(alloc, spine)?;
     match stack {
-        Stack::Bottom => Ok(Step::End(Some(tree))),
+        Stack::Bottom => Ok(Step::End(Some(tree), false)),
         Stack::Above(frame) => match Box::into_inner(frame) {
-            Frame::InGroup(_, _) => Ok(Step::End(None)),
+            Frame::InGroup(_, _) => Ok(Step::End(None, false)),
             Frame::InCall(name, arguments, hole, below) => {
                 let arguments = add_argument(alloc, arguments, tree)?;
                 argument_begins(alloc, name, arguments, hole, below)
             }
-            Frame::InItem(_, _, _) => Ok(Step::End(None)),
+            Frame::InItem(_, _, _) => Ok(Step::End(None, false)),
         },
     }
 }
 
 // An argument is empty, and a comma follows.
 fn empty_before_comma(alloc: Global, stack: Stack) -> Result<Step, AllocError>
-    ensures { IfOk result (λ s. step_of s ≡ stepped (omitted (stack_of stack)) None) }
+    ensures { IfOk result (λ s. step_of s ≡ stepped (omitted (stack_of stack)) None (is_call (stack_of stack))) }
 {
     match stack {
-        Stack::Bottom => Ok(Step::End(None)),
+        Stack::Bottom => Ok(Step::End(None, false)),
         Stack::Above(frame) => match Box::into_inner(frame) {
-            Frame::InGroup(_, _) => Ok(Step::End(None)),
+            Frame::InGroup(_, _) => Ok(Step::End(None, false)),
             Frame::InCall(name, arguments, hole, below) => {
                 let arguments = omit_argument(alloc, arguments)?;
                 argument_begins(alloc, name, arguments, hole, below)
             }
-            Frame::InItem(_, _, _) => Ok(Step::End(None)),
+            Frame::InItem(_, _, _) => Ok(Step::End(None, false)),
         },
     }
 }
 
 // An argument is empty, and the last.
 fn empty_at_end(alloc: Global, stack: Stack) -> Result<Step, AllocError>
-    ensures { IfOk result (λ s. step_of s ≡ stepped (omitted_last (stack_of stack)) None) }
+    ensures { IfOk result (λ s. step_of s ≡ stepped (omitted_last (stack_of stack)) None (is_call (stack_of stack))) }
 {
     match stack {
-        Stack::Bottom => Ok(Step::End(None)),
+        Stack::Bottom => Ok(Step::End(None, false)),
         Stack::Above(frame) => match Box::into_inner(frame) {
-            Frame::InGroup(_, _) => Ok(Step::End(None)),
+            Frame::InGroup(_, _) => Ok(Step::End(None, false)),
             Frame::InCall(name, arguments, hole, below) => {
                 let arguments = omit_argument(alloc, arguments)?;
                 call_ends(alloc, name, arguments, hole, below)
             }
-            Frame::InItem(_, _, _) => Ok(Step::End(None)),
+            Frame::InItem(_, _, _) => Ok(Step::End(None, false)),
         },
     }
 }
@@ -354,7 +356,7 @@ fn empty_at_end(alloc: Global, stack: Stack) -> Result<Step, AllocError>
 // An expression or an argument begins, or an argument is empty.
 #[inline(always)]
 fn first(alloc: Global, stack: Stack, after: bool, kind: &TokenKind) -> Result<Step, AllocError>
-    ensures { IfOk result (λ s. step_of s ≡ stepped (first (stack_of stack) after kind.now) None) }
+    ensures { IfOk result (λ s. step_of s ≡ stepped (first (stack_of stack) after kind.now) None (starts_in (stack_of stack) kind.now)) }
 {
     match kind {
         TokenKind::Comma => empty_before_comma(alloc, stack),
@@ -372,7 +374,7 @@ fn mark_follows(
     after: bool,
     mark: Mark,
 ) -> Result<Step, AllocError>
-    ensures { IfOk result (λ s. step_of s ≡ stepped (go_on (stack_of stack) (spine_tree spine) true after (TokenKind.Mark mark)) (ended (stack_of stack) (spine_tree spine))) }
+    ensures { IfOk result (λ s. step_of s ≡ or_ended stack spine (λ st t. go_on st t true after (TokenKind.Mark mark)) true) }
 {
     if after {
         match operator_of(mark) {
@@ -380,7 +382,7 @@ fn mark_follows(
                 stack,
                 spot: Spot::Due(Hole::After(spine, operator)),
             })),
-            None => stop(alloc, stack, spine),
+            None => stop(alloc, stack, spine, true),
         }
     } else {
         match prefix_of(mark) {
@@ -388,7 +390,7 @@ fn mark_follows(
                 let hole = Hole::After(spine, BinaryOperator::Concatenation);
                 prefix_begins(alloc, stack, hole, prefix)
             }
-            None => stop(alloc, stack, spine),
+            None => stop(alloc, stack, spine, true),
         }
     }
 }
@@ -399,21 +401,22 @@ fn follow(
     alloc: Global,
     stack: Stack,
     spine: Spine,
-    after: bool,
-    kind: &TokenKind,
+    token: &Token,
+    opens: bool,
 ) -> Result<Step, AllocError>
-    ensures { IfOk result (λ s. step_of s ≡ stepped (go_on (stack_of stack) (spine_tree spine) true after kind.now) (ended (stack_of stack) (spine_tree spine))) }
+    ensures { IfOk result (λ s. step_of s ≡ or_ended stack spine (λ st t. go_on st t true token.now.blank_after token.now.kind) (goes_on (stack_of stack) opens token.now.kind)) }
 {
-    match kind {
-        TokenKind::Mark(mark) => mark_follows(alloc, stack, spine, after, *mark),
+    match &token.kind {
+        TokenKind::Mark(mark) => mark_follows(alloc, stack, spine, token.blank_after, *mark),
         TokenKind::Identifier(_) | TokenKind::Constant(_) | TokenKind::Open => {
             let hole = Hole::After(spine, BinaryOperator::Concatenation);
-            begin(alloc, stack, hole, after, kind)
+            begin(alloc, stack, hole, token.blank_after, &token.kind)
         }
         TokenKind::Close => close(alloc, stack, spine),
         TokenKind::Comma => comma(alloc, stack, spine),
         TokenKind::CloseAngle => close_angle(alloc, stack, spine),
-        TokenKind::OpenAngle | TokenKind::Part(_) => stop(alloc, stack, spine),
+        TokenKind::OpenAngle => stop(alloc, stack, spine, opens),
+        TokenKind::Part(_) => stop(alloc, stack, spine, false),
     }
 }
 
@@ -423,30 +426,18 @@ fn touch(
     alloc: Global,
     stack: Stack,
     spine: Spine,
-    after: bool,
-    kind: &TokenKind,
+    token: &Token,
+    opens: bool,
 ) -> Result<Step, AllocError>
-    ensures { IfOk result (λ s. step_of s ≡ stepped (go_on (stack_of stack) (spine_tree spine) false after kind.now) (ended (stack_of stack) (spine_tree spine))) }
+    ensures { IfOk result (λ s. step_of s ≡ or_ended stack spine (λ st t. go_on st t false token.now.blank_after token.now.kind) (goes_on (stack_of stack) opens token.now.kind)) }
 {
-    match kind {
+    match &token.kind {
         TokenKind::Close => close(alloc, stack, spine),
         TokenKind::Comma => comma(alloc, stack, spine),
         TokenKind::CloseAngle => close_angle(alloc, stack, spine),
-        _ => stop(alloc, stack, spine),
-    }
-}
-
-#[inline(always)]
-fn inner(stack: &Stack) -> Option<Paren>
-    ensures { result ≡ inner_of (parens (stack_of stack.now)) }
-{
-    match stack {
-        Stack::Bottom => None,
-        Stack::Above(frame) => match &**frame {
-            Frame::InGroup(_, _) => Some(Paren::OfGroup),
-            Frame::InCall(_, _, _, _) => Some(Paren::OfCall),
-            Frame::InItem(_, _, _) => Some(Paren::OfItem),
-        },
+        TokenKind::OpenAngle => stop(alloc, stack, spine, opens),
+        TokenKind::Part(_) => stop(alloc, stack, spine, false),
+        _ => stop(alloc, stack, spine, true),
     }
 }
 
@@ -462,17 +453,23 @@ fn variable_due(hole: &Hole) -> bool
     }
 }
 
+// The place that a token shows to lack a variable, with `left` tokens from the token on; 0 where it shows none.
 #[inline(always)]
-fn position(spot: &Spot) -> Position
-    ensures { result ≡ position (spot_of spot.now) }
+fn lack(state: &State, token: &Token, left: usize) -> usize
+    requires { left < 9223372036854775808 }
+    ensures { result ≡ lack_at (state_of state.now) token.now left }
 {
-    match spot {
-        Spot::Due(Hole::Begin) => Position::AtStart,
-        Spot::Due(Hole::After(_, operator)) => Position::AfterBinary(needs_variable(*operator)),
-        Spot::Due(Hole::Under(unary, _)) => Position::AfterUnary(operand_is_variable(*unary)),
-        Spot::Prefixed(_, _) => Position::AfterPrefix,
-        Spot::Named(hole, _) => Position::AfterIdentifier(variable_due(hole)),
-        Spot::Whole(_) => Position::AfterOperand,
+    match &state.spot {
+        Spot::Due(hole) => {
+            let misfit = variable_due(hole) && !begins_variable(&token.kind);
+            if misfit { left } else { 0 }
+        }
+        Spot::Prefixed(_, _) => 0,
+        Spot::Named(hole, _) => {
+            let misfit = variable_due(hole) && opens_bracket(token.blank_before, &token.kind);
+            if misfit { left + 1 } else { 0 }
+        }
+        Spot::Whole(_) => 0,
     }
 }
 
@@ -481,7 +478,14 @@ fn position(spot: &Spot) -> Position
 fn closed(alone: bool, stack: &Stack) -> bool
     ensures { result ≡ closed alone (stack_of stack.now) }
 {
-    stops(alone, inner(stack))
+    match stack {
+        Stack::Bottom => alone,
+        Stack::Above(frame) => match &**frame {
+            Frame::InGroup(_, _) => false,
+            Frame::InCall(_, _, _, _) => false,
+            Frame::InItem(_, _, _) => false,
+        },
+    }
 }
 
 #[inline(always)]
@@ -491,35 +495,36 @@ fn after(
     stack: Stack,
     spine: Spine,
     token: &Token,
+    opens: bool,
 ) -> Result<Step, AllocError>
-    ensures { IfOk result (λ s. step_of s ≡ stepped (after alone (stack_of stack) (spine_tree spine) token.now.blank_before token.now.blank_after token.now.kind) (ended (stack_of stack) (spine_tree spine))) }
+    ensures { IfOk result (λ s. step_of s ≡ or_ended stack spine (λ st t. after alone st t token.now.blank_before token.now.blank_after token.now.kind) (onward alone (stack_of stack) opens token.now.kind)) }
 {
     if closed(alone, &stack) {
-        stop(alloc, stack, spine)
+        stop(alloc, stack, spine, opens)
     } else if token.blank_before {
-        follow(alloc, stack, spine, token.blank_after, &token.kind)
+        follow(alloc, stack, spine, token, opens)
     } else {
-        touch(alloc, stack, spine, token.blank_after, &token.kind)
+        touch(alloc, stack, spine, token, opens)
     }
 }
 
 #[inline(always)]
 fn due(alloc: Global, stack: Stack, hole: Hole, token: &Token) -> Result<Step, AllocError>
-    ensures { IfOk result (λ s. step_of s ≡ stepped (due (stack_of stack) (hole_of hole) token.now.blank_before token.now.blank_after token.now.kind) None) }
+    ensures { IfOk result (λ s. step_of s ≡ reading false (states.At (stack_of stack) (states.Due (hole_of hole))) token.now) }
 {
     let after = token.blank_after;
     match hole {
         Hole::Begin => first(alloc, stack, after, &token.kind),
         Hole::After(spine, operator) => {
             if !token.blank_before {
-                return Ok(Step::End(None));
+                return Ok(Step::End(None, begins(false, &token.kind)));
             }
             let hole = Hole::After(spine, operator);
             begin(alloc, stack, hole, after, &token.kind)
         }
         Hole::Under(unary, rest) => {
             if token.blank_before {
-                return Ok(Step::End(None));
+                return Ok(Step::End(None, begins(false, &token.kind)));
             }
             let hole = Hole::Under(unary, rest);
             begin(alloc, stack, hole, after, &token.kind)
@@ -536,18 +541,18 @@ fn after_prefix(
     before: bool,
     kind: &TokenKind,
 ) -> Result<Step, AllocError>
-    ensures { IfOk result (λ s. step_of s ≡ stepped (after_prefix (stack_of stack) (hole_of hole) prefix before kind.now) None) }
+    ensures { IfOk result (λ s. step_of s ≡ stepped (after_prefix (stack_of stack) (hole_of hole) prefix before kind.now) None (is_identifier kind.now)) }
 {
     match kind {
         TokenKind::Identifier(name) => {
             if before {
-                Ok(Step::End(None))
+                Ok(Step::End(None, true))
             } else {
                 let name = name.characters(alloc)?;
                 whole(alloc, stack, hole, with_prefix(prefix, name))
             }
         }
-        _ => Ok(Step::End(None)),
+        _ => Ok(Step::End(None, false)),
     }
 }
 
@@ -560,7 +565,7 @@ fn named(
     name: Characters,
     token: &Token,
 ) -> Result<Step, AllocError>
-    ensures { IfOk result (λ s. step_of s ≡ stepped (named alone (stack_of stack) (hole_of hole) name token.now.blank_before token.now.blank_after token.now.kind) (ended (stack_of stack) (fill (hole_of hole) (expressions.Identifier name)))) }
+    ensures { IfOk result (λ s. step_of s ≡ reading alone (states.At (stack_of stack) (states.Named (hole_of hole) name)) token.now) }
 {
     if opens_bracket(token.blank_before, &token.kind) {
         let opened = match &token.kind {
@@ -574,13 +579,14 @@ fn named(
         }));
     }
     let spine = fill(alloc, hole, Expression::Identifier(name))?;
-    after(alloc, alone, stack, spine, token)
+    let opens = opens_bracket(false, &token.kind);
+    after(alloc, alone, stack, spine, token, opens)
 }
 
 // One more token.
 #[inline(always)]
 fn read(alloc: Global, alone: bool, state: State, token: &Token) -> Result<Step, AllocError>
-    ensures { IfOk result (λ s. step_of s ≡ stepped (read alone (state_of state) token.now) (result_of (state_of state))) }
+    ensures { IfOk result (λ s. step_of s ≡ reading alone (state_of state) token.now) }
 {
     let State { stack, spot } = state;
     match spot {
@@ -594,7 +600,7 @@ fn read(alloc: Global, alone: bool, state: State, token: &Token) -> Result<Step,
             &token.kind,
         ),
         Spot::Named(hole, name) => named(alloc, alone, stack, hole, name, token),
-        Spot::Whole(spine) => after(alloc, alone, stack, spine, token),
+        Spot::Whole(spine) => after(alloc, alone, stack, spine, token, false),
     }
 }
 
@@ -654,14 +660,14 @@ fn plain(
 
 // An operand behind the operator, where the token tells it.
 #[inline(always)]
-fn operand_behind(
+fn operand_by(
     alloc: Global,
     operator: BinaryOperator,
     taken: usize,
     token: &Token,
     behind: &[Token],
 ) -> Result<Option<Plain>, AllocError>
-    ensures { IfOk result (λ next. joint_of next ≡ operand_behind operator taken (plain token.now.kind behind.now)) }
+    ensures { IfOk result (λ next. joint_of next ≡ operand_by operator taken (plain token.now.kind behind.now)) }
 {
     match plain(alloc, &token.kind, behind)? {
         None => Ok(None),
@@ -691,7 +697,7 @@ fn marked_operand(
                 if !token.blank_before || misfit {
                     return Ok(None);
                 }
-                operand_behind(alloc, operator, 2, token, behind)
+                operand_by(alloc, operator, 2, token, behind)
             }
         },
     }
@@ -715,7 +721,7 @@ fn next_operand(alloc: Global, tokens: &[Token]) -> Result<Option<Plain>, AllocE
                     }
                     marked_operand(alloc, operator_of(*mark), behind)
                 }
-                _ => operand_behind(alloc, BinaryOperator::Concatenation, 1, token, behind),
+                _ => operand_by(alloc, BinaryOperator::Concatenation, 1, token, behind),
             }
         }
     }
@@ -755,7 +761,7 @@ fn ended_at<'a, 't>(
     blank: bool,
 ) -> Found<'a, 't>
     requires { at ≤ length tokens.now }
-    ensures { Tells (expressions_of result.tree) result.rest.tokens.now result.rest.lacking result.rest.blank ≡ Tells (expressions_of tree) (drop at tokens.now) lacking blank }
+    ensures { told_of result ≡ Tells (expressions_of tree) (drop at tokens.now) lacking blank }
 {
     let tokens = &tokens[at..];
     let rest = Rest {
@@ -773,27 +779,21 @@ fn read_on<'a, 't>(
     begun: State,
     tokens: &'a [Token<'t>],
 ) -> Result<Found<'a, 't>, AllocError>
-    ensures { IfOk result (λ found. told alone (state_of begun) tokens.now ≡ Tells (expressions_of found.tree) found.rest.tokens.now found.rest.lacking found.rest.blank) }
+    ensures { IfOk result (λ found. told alone (state_of begun) tokens.now ≡ told_of found) }
 {
     let mut state = begun;
     let mut at = 0;
     let mut lacking = 0;
     while at < tokens.len() {
         let token = &tokens[at];
-        let inner = inner(&state.stack);
-        let position = position(&state.spot);
+        let here = lack(&state, token, tokens.len() - at);
         match read(alloc, alone, state, token)? {
             Step::Next(next) => {
-                let left = tokens.len() - at;
-                let here = lack(position, token.blank_before, &token.kind, left);
                 lacking = most(lacking, here);
                 at += 1;
                 state = next;
             }
-            Step::End(tree) => {
-                let blank = fits(alone, inner, position, &token.kind);
-                return Ok(ended_at(tree, tokens, at, lacking, blank));
-            }
+            Step::End(tree, blank) => return Ok(ended_at(tree, tokens, at, lacking, blank)),
         }
     }
     let tree = finish(alloc, state)?;
@@ -810,7 +810,7 @@ fn read_behind<'a, 't>(
     tokens: &'a [Token<'t>],
 ) -> Result<Found<'a, 't>, AllocError>
     requires { is_element first ≡ true }
-    ensures { IfOk result (λ found. told alone (states.At states.Bottom (states.Whole (expression_of first))) tokens.now ≡ Tells (expressions_of found.tree) found.rest.tokens.now found.rest.lacking found.rest.blank) }
+    ensures { IfOk result (λ found. told alone (states.At states.Bottom (states.Whole (expression_of first))) tokens.now ≡ told_of found) }
 {
     if alone {
         return Ok(ended_at(Some(first), tokens, 0, 0, false));

@@ -5,12 +5,11 @@ use Rattle.std.proofs.lemmas.Bool.{leb-true, Decides.{nat_tests}}
 use Rattle.sno_lexer.specs.declared.token.{Mark.TheVariants.{Dollar}, Outcome.{Outcome}, Outcome.TheVariants.{Success, Failure}, Token.{Token}}
 use Rattle.sno_lexer.specs.declared.token.{Part.TheVariants.{Equals, Colon, On, Label}, TokenKind.{TokenKind}}
 use Rattle.sno_lexer.specs.declared.token.TokenKind.TheVariants as token
-use Rattle.sno_expression.specs.declared.position.Position.{Position, TheVariants.{AfterBinary, AfterUnary, AfterIdentifier}}
 use Rattle.sno_expression.specs.{declared.tree.UnaryOperator.TheVariants.{Indirect}, Expressions.{Expression, Unary}, Spelling.{spaced}}
-use Rattle.sno_expression.specs.inner.Reading.{State, Bottom, Begin, Under, Due, At, read, result, start, position, opens_bracket}
-use Rattle.sno_expression.specs.inner.Telling.{most, begins, begins_variable, lack, lack_at, fits_at, Told, Tells, with_lack, then_tell, told, telling}
+use Rattle.sno_expression.specs.inner.Reading.{State, Bottom, Begin, Under, Due, Named, At, read, result, start, opens_bracket, variable_due}
+use Rattle.sno_expression.specs.inner.Telling.{most, begins, begins_variable, starts_in, lack_at, fits_at, Told, Tells, with_lack, then_tell, told, telling}
 use Rattle.sno_expression.proofs.{Closing.{closing as parenthesis, completion, tail, state_ends}, Loop.{none_most, most_none, most_most, with_none}}
-use Rattle.sno_expression.proofs.{Sound.{sound}, Telling.{taken_fits, fits_taken, starts, begins_any}}
+use Rattle.sno_expression.proofs.{Sound.{sound}, Telling.{taken_fits, fits_taken, starts, start_begins, begins_any}}
 use Rattle.sno_statement.specs.declared.{parser.Refusal.{Refusal}, role.Role.{Role}, role.Role.TheVariants.{Assigns, Goes as Leads_on, Follows, Touches}}
 use Rattle.sno_statement.proofs.Roles.{goes, assigns, no_colon_follows, indirect_of, follows}
 use Rattle.sno_statement.specs.Statements.{Target, To, Computed, Goto, NoGoto, Always, OnBoth, NoObject, NullObject, ValueObject, Body, NoBody, Does, Statement, Says, may_be_set}
@@ -48,27 +47,19 @@ count_merged (Some d) (Some e) n = at (nat_le d e) (nat_le (suc (d + n)) (suc (e
     at false false f g = refl
 
 -- the place that a token shows
-abbrev shown_by : Position → Bool → TokenKind → Option ℕ
-shown_by (AfterBinary w) b k = if w && not (begins_variable k) then Some 0 else None
-shown_by (AfterUnary w) b k = if w && not (begins_variable k) then Some 0 else None
-shown_by (AfterIdentifier w) b k = if w && opens_bracket b k then Some 1 else None
-shown_by _ b k = None
-
 abbrev shown : State → Token → Option ℕ
-shown (At st spot) t = shown_by (position spot) t.blank_before t.kind
+shown (At st (Due h)) t = if variable_due h && not (begins_variable t.kind) then Some 0 else None
+shown (At st (Named h f)) t = if variable_due h && opens_bracket t.blank_before t.kind then Some 1 else None
+shown (At st spot) t = None
 
 place_count : (c : Bool) (d l n : ℕ) → l ≡ suc (d + n) → (if c then l else 0) ≡ count (if c then Some d else None) n
 place_count true d l n e = e
 place_count false d l n e = refl
 
-by_count : (p : Position) (b : Bool) (k : TokenKind) (n : ℕ) → lack p b k (suc n) ≡ count (shown_by p b k) n
-by_count (AfterBinary w) b k n = place_count (w && not (begins_variable k)) 0 (suc n) n (omega arith)
-by_count (AfterUnary w) b k n = place_count (w && not (begins_variable k)) 0 (suc n) n (omega arith)
-by_count (AfterIdentifier w) b k n = place_count (w && opens_bracket b k) 1 (suc n + 1) n (omega arith)
-by_count _ b k n = refl
-
 shown_count : (s : State) (t : Token) (n : ℕ) → lack_at s t (suc n) ≡ count (shown s t) n
-shown_count (At st spot) t n = by_count (position spot) t.blank_before t.kind n
+shown_count (At st (Due h)) t n = place_count (variable_due h && not (begins_variable t.kind)) 0 (suc n) n (omega arith)
+shown_count (At st (Named h f)) t n = place_count (variable_due h && opens_bracket t.blank_before t.kind) 1 (suc n + 1) n (omega arith)
+shown_count (At st _) t n = refl
 
 -- SHAPES
 
@@ -427,13 +418,16 @@ entering : (c : Shape) (u : ℕ) (f : Field) (i : Proper f start) (t : Token) �
     → ((n : ℕ) (m : List Token) → run c n (t ∷ m) ≡ run (In u f start i) n (t ∷ m)) → Step c t
 entering c u f i t e h = at (read (alone f) start t) refl
   where
+    fits : may c t.kind ≡ starts_in Bottom t.kind
+    fits = e ∙ (sym (or_false (begins false t.kind)) ∙ sym (start_begins t.kind))
+
     at : (o : Option State) → read (alone f) start t ≡ o → Step c t
     at (Some v) d =
         let g = within u f start v i t d in
-        Goes (e ∙ taken_fits (alone f) start t.blank_before t.blank_after t.kind v d) (g.0, g.1, λ n m. h n m ∙ g.2 n m)
+        Goes (fits ∙ taken_fits (alone f) start t.blank_before t.blank_after t.kind v d) (g.0, g.1, λ n m. h n m ∙ g.2 n m)
     at None d = Stops (λ n m. h n m
         ∙ (ap (use_told u f (suc (length m)) n) (told_end (alone f) start t m d)
-        ∙ (none_used u f (suc (length m)) n (t ∷ m) (begins false t.kind || false) ∙ ap (λ (x : Bool). Err (blamed x n (t ∷ m))) (sym e))))
+        ∙ (none_used u f (suc (length m)) n (t ∷ m) (starts_in Bottom t.kind) ∙ ap (λ (x : Bool). Err (blamed x n (t ∷ m))) (sym fits))))
 
 equals_not : (t : Token) → role t ≡ Assigns → (begins false t.kind || is_colon t.kind) ≡ false
 equals_not t e = ap (λ (x : Token). begins false x.kind || is_colon x.kind) (assigns t e)

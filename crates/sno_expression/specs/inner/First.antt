@@ -1,5 +1,6 @@
 -- Operands that one token tells, the first and those behind it: as many steps of the reading, taken at once.
 use Rattle.std.specs.Prelude.{ℕ, Bool, true, false, not, ◌&&◌, ◌||◌, List, [], ◌∷◌, Option, Some, None, if◌then◌else◌}
+use Rattle.std.specs.Option.{option_map}
 use Rattle.sno_lexer.specs.declared.token.Token.{Token}
 use Rattle.sno_lexer.specs.declared.token.TokenKind.{TokenKind}
 use Rattle.sno_lexer.specs.declared.token.TokenKind.TheVariants as token
@@ -24,17 +25,16 @@ plain k ts = None
 pub data Joint : Type 0 where
   Joins : BinaryOperator → Expression → ℕ → Joint
 
-abbrev pub operand_behind : BinaryOperator → ℕ → Option Expression → Option Joint
-operand_behind o n None = None
-operand_behind o n (Some x) = Some (Joins o x n)
+abbrev pub operand_by : BinaryOperator → ℕ → Option Expression → Option Joint
+operand_by o n q = option_map (λ x. Joins o x n) q
 
 abbrev pub marked_operand : Option BinaryOperator → List Token → Option Joint
-marked_operand (Some o) (t ∷ ts) = if not t.blank_before || (needs_variable o && not (begins_variable t.kind)) then None else operand_behind o 2 (plain t.kind ts)
+marked_operand (Some o) (t ∷ ts) = if not t.blank_before || (needs_variable o && not (begins_variable t.kind)) then None else operand_by o 2 (plain t.kind ts)
 marked_operand o ts = None
 
 abbrev pub joined_by : Bool → TokenKind → List Token → Option Joint
 joined_by a (token.Mark m) ts = if not a then None else marked_operand (operator_of m) ts
-joined_by a k ts = operand_behind Concatenation 1 (plain k ts)
+joined_by a k ts = operand_by Concatenation 1 (plain k ts)
 
 abbrev pub next_operand : List Token → Option Joint
 next_operand [] = None

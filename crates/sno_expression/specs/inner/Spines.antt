@@ -11,14 +11,10 @@ use Rattle.sno_expression.specs.inner.Levels.{binds_into_right}
 abbrev pub is_under_all : BinaryOperator → List Pending → Bool
 is_under_all o js = list_all (λ j. binds_into_right o j.operator) js
 
--- may each of these stand right under the one
-abbrev pub is_over_all : Pending → List Pending → Bool
-is_over_all j js = list_all (λ k. binds_into_right k.operator j.operator) js
-
 -- each may stand right under all around it
 abbrev pub is_ordered : List Pending → Bool
 is_ordered [] = true
-is_ordered (j ∷ js) = is_over_all j js && is_ordered js
+is_ordered (j ∷ js) = list_all (λ k. binds_into_right k.operator j.operator) js && is_ordered js
 
 -- the last operand is one element
 abbrev pub is_element : Expression → Bool

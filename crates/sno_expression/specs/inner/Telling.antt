@@ -1,17 +1,14 @@
 -- What a reading tells beside its tree: where a variable is lacking, and whether the token at which it stops would be taken
 -- with other blanks. A place is told by the number of tokens from it on, and 0 stands for none.
-use Rattle.std.specs.Prelude.{ℕ, ◌+◌, nat_le, Bool, true, false, List, [], ◌∷◌, Option, Some, None, is_some, length, ◌||◌, ◌&&◌, not, if◌then◌else◌}
+use Rattle.std.specs.Prelude.{ℕ, ◌+◌, nat_le, Bool, true, false, List, [], ◌∷◌, Option, Some, None, is_some, length, ◌&&◌, not, if◌then◌else◌}
 use Rattle.sno_lexer.specs.declared.token.Mark.TheVariants as mark
 use Rattle.sno_lexer.specs.declared.token.Token.{Token}
 use Rattle.sno_lexer.specs.declared.token.TokenKind.{TokenKind}
 use Rattle.sno_lexer.specs.declared.token.TokenKind.TheVariants as token
-use Rattle.sno_expression.specs.declared.position.Paren.{Paren}
-use Rattle.sno_expression.specs.declared.position.Paren.TheVariants.{OfGroup, OfCall, OfItem}
-use Rattle.sno_expression.specs.declared.position.Position.{Position}
-use Rattle.sno_expression.specs.declared.position.Position.TheVariants.{AtStart, AfterBinary, AfterUnary, AfterPrefix, AfterIdentifier, AfterOperand}
 use Rattle.sno_expression.specs.Expressions.{Expression}
 use Rattle.sno_expression.specs.Marks.{prefix_of}
-use Rattle.sno_expression.specs.inner.Reading.{State, At, read, result, start, stops, inner_of, opens_bracket, parens, position}
+use Rattle.sno_expression.specs.inner.Reading.{Hole, Begin, Stack, InGroup, InCall, InItem, Due, Prefixed, Named, Whole, State, At}
+use Rattle.sno_expression.specs.inner.Reading.{closed, read, result, start, opens_bracket, variable_due}
 
 -- the place further left: more tokens are left there
 abbrev pub most : ℕ → ℕ → ℕ
@@ -24,14 +21,10 @@ begins_variable _ = false
 
 -- the place that a token shows to lack a variable, with n tokens left from the token on: an element that should be one and is none
 -- is seen where it begins, or where its identifier opens a bracket
-abbrev pub lack : Position → Bool → TokenKind → ℕ → ℕ
-lack (AfterBinary w) b k n = if w && not (begins_variable k) then n else 0
-lack (AfterUnary w) b k n = if w && not (begins_variable k) then n else 0
-lack (AfterIdentifier w) b k n = if w && opens_bracket b k then n + 1 else 0
-lack _ b k n = 0
-
 abbrev pub lack_at : State → Token → ℕ → ℕ
-lack_at (At st spot) t n = lack (position spot) t.blank_before t.kind n
+lack_at (At st (Due h)) t n = if variable_due h && not (begins_variable t.kind) then n else 0
+lack_at (At st (Named h f)) t n = if variable_due h && opens_bracket t.blank_before t.kind then n + 1 else 0
+lack_at (At st spot) t n = 0
 
 -- does the token begin an operand
 abbrev pub begins : Bool → TokenKind → Bool
@@ -41,35 +34,51 @@ begins a token.Open = true
 begins false (token.Mark m) = is_some (prefix_of m)
 begins a k = false
 
--- does the token end an argument that is empty; does it go on after an operand, with some blanks round it
-abbrev pub ends_argument : Option Paren → TokenKind → Bool
-ends_argument (Some OfCall) token.Comma = true
-ends_argument (Some OfCall) token.Close = true
-ends_argument _ k = false
+abbrev pub is_identifier : TokenKind → Bool
+is_identifier (token.Identifier n) = true
+is_identifier k = false
 
-abbrev pub follows : Option Paren → TokenKind → Bool
-follows (Some OfGroup) token.Close = true
-follows (Some OfCall) token.Close = true
-follows (Some OfCall) token.Comma = true
-follows (Some OfItem) token.CloseAngle = true
-follows inner (token.Identifier n) = true
-follows inner (token.Constant c) = true
-follows inner (token.Mark m) = true
-follows inner token.Open = true
-follows inner k = false
+abbrev pub is_call : Stack → Bool
+is_call (InCall f args h st) = true
+is_call _ = false
 
--- is the token taken at a position with some blanks round it
-abbrev pub fits : Bool → Option Paren → Position → TokenKind → Bool
-fits alone inner AtStart k = begins false k || ends_argument inner k
-fits alone inner (AfterBinary w) k = begins false k
-fits alone inner (AfterUnary w) k = begins false k
-fits alone inner AfterPrefix (token.Identifier n) = true
-fits alone inner AfterPrefix k = false
-fits alone inner (AfterIdentifier w) k = opens_bracket false k || (not (stops alone inner) && follows inner k)
-fits alone inner AfterOperand k = not (stops alone inner) && follows inner k
+-- is an expression or an argument that begins taken, or an empty argument ended
+abbrev pub starts_in : Stack → TokenKind → Bool
+starts_in st token.Comma = is_call st
+starts_in st token.Close = is_call st
+starts_in st k = begins false k
 
+-- does the token end what the innermost parenthesis holds
+abbrev pub ends_in : Stack → TokenKind → Bool
+ends_in (InGroup h st) token.Close = true
+ends_in (InCall f args h st) token.Close = true
+ends_in (InCall f args h st) token.Comma = true
+ends_in (InItem n h st) token.CloseAngle = true
+ends_in st k = false
+
+-- is the token taken after an operand with some blanks round it; w tells it of one that opens a bracket
+abbrev pub goes_on : Stack → Bool → TokenKind → Bool
+goes_on st w (token.Identifier n) = true
+goes_on st w (token.Constant c) = true
+goes_on st w (token.Mark m) = true
+goes_on st w token.Open = true
+goes_on st w token.OpenAngle = w
+goes_on st w (token.Part p) = false
+goes_on st w k = ends_in st k
+
+abbrev pub onward : Bool → Stack → Bool → TokenKind → Bool
+onward alone st w k = if closed alone st then w else goes_on st w k
+
+abbrev pub due_fits : Stack → Hole → TokenKind → Bool
+due_fits st Begin k = starts_in st k
+due_fits st h k = begins false k
+
+-- is the token taken with some blanks round it
 abbrev pub fits_at : Bool → State → TokenKind → Bool
-fits_at alone (At st spot) k = fits alone (inner_of (parens st)) (position spot) k
+fits_at alone (At st (Due h)) k = due_fits st h k
+fits_at alone (At st (Prefixed h f)) k = is_identifier k
+fits_at alone (At st (Named h f)) k = onward alone st (opens_bracket false k) k
+fits_at alone (At st (Whole t)) k = onward alone st false k
 
 -- the tree, where one is complete when a token is not taken or there are no more; the tokens that are left; the leftmost
 -- place that lacks a variable; and whether the token would be taken with other blanks

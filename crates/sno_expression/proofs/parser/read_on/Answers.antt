@@ -1,8 +1,6 @@
-use Rattle.std.proofs.Common.{◌≡◌, ℕ, ◌+◌, ◌-◌, ◌∙◌, ap, sym, drop, length, arith}
-use Rattle.std.specs.Prelude.{Option}
-use Rattle.sno_expression.specs.{declared.position.Paren.{Paren}, declared.position.Position.{Position}, Abstraction.{expressions_of}}
-use Rattle.sno_expression.specs.inner.{Reading.{inner_of, parens, position}, Telling.{most, lack, lack_at, fits, told, with_lack}}
-use Rattle.sno_expression.{specs.inner.Told.{stack_of, spot_of, state_of}, proofs.Loop.{more, on_next, on_end, left_from}}
+use Rattle.std.proofs.Common.{◌≡◌, ◌+◌, ◌∙◌, ap, sym, drop, length, arith}
+use Rattle.sno_expression.specs.{Abstraction.{expressions_of}, inner.Telling.{most, lack_at, told, with_lack}, inner.Told.{state_of}}
+use Rattle.sno_expression.proofs.Loop.{more, on_next, on_end, left_from}
 use Rattle.sno_expression.proofs.parser.read_on.Goals as goal
 
 pub returns-in-End : goal.returns-in-End
@@ -10,11 +8,8 @@ returns-in-End c =
     let ts = c.args.tokens.now in
     let i = c.loop-at.at in
     let t = c.index-tokens-at.result in
-    sym (on_end c.args.alone (state_of c.loop-at.state) (expressions_of c.in-End.tree) t (drop i ts) (drop (i + 1) ts) c.loop-at.lacking c.fits-blank.result (told c.args.alone (state_of c.args.begun) ts)
+    sym (on_end c.args.alone (state_of c.loop-at.state) (expressions_of c.in-End.tree) t (drop i ts) (drop (i + 1) ts) c.loop-at.lacking c.in-End.blank (told c.args.alone (state_of c.args.begun) ts)
     (more ts i t c.loop-at-test.true c.index-tokens-at.is) (rw c.in-End.is at c.in_ok-next.ensures)
-    (c.fits-blank.ensures
-    ∙ (ap (λ (q : Option Paren). fits c.args.alone q c.position-position.result t.kind) c.inner-inner.ensures
-    ∙ ap (λ (p : Position). fits c.args.alone (inner_of (parens (stack_of c.loop-at.state.stack))) p t.kind) c.position-position.ensures))
     c.loop-at.invariant.same) ∙ sym c.ended_at.ensures
 
 pub loop-at-preserved : goal.loop-at-preserved
@@ -25,9 +20,7 @@ loop-at-preserved c =
     let m = more ts i t c.loop-at-test.true c.index-tokens-at.is in
     let all = told c.args.alone (state_of c.args.begun) ts in
     let here : c.lack-here.result ≡ lack_at (state_of c.loop-at.state) t (length (drop i ts)) =
-    c.lack-here.ensures
-    ∙ (ap (λ (p : Position). lack p t.blank_before t.kind (length ts - i)) c.position-position.ensures
-    ∙ ap (λ (x : ℕ). lack (position (spot_of c.loop-at.state.spot)) t.blank_before t.kind x) (left_from ts (drop (i + 1) ts) i t m)) in
+    c.lack-here.ensures ∙ ap (lack_at (state_of c.loop-at.state) t) (left_from ts (drop (i + 1) ts) i t m) in
     let next : all ≡ with_lack c.most-lacking.result (told c.args.alone (state_of c.in-Next.next) (drop (i + 1) ts)) =
     on_next c.args.alone (state_of c.loop-at.state) (state_of c.in-Next.next) t (drop i ts) (drop (i + 1) ts) c.loop-at.lacking c.most-lacking.result all
     m (rw c.in-Next.is at c.in_ok-next.ensures) (c.most-lacking.ensures ∙ ap (most c.loop-at.lacking) here) c.loop-at.invariant.same in
