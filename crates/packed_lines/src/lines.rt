@@ -1,5 +1,5 @@
 //! Lines one behind the other, as they are printed.
-ghost use Rattle.std.specs.Prelude.{◌≡◌, ℕ, ◌==◌, ◌+◌, ◌<◌, ◌≤◌, [], ◌∷◌, ◌++◌, length, take, drop, slice_get, slice_index_or, vec_len, vec_capacity, IfSome, OnOk, OnErr};
+ghost use Rattle.std.specs.Prelude.{◌≡◌, ℕ, ◌==◌, ◌+◌, ◌<◌, ◌≤◌, [], ◌∷◌, ◌++◌, length, take, drop, slice_get, slice_index_or, vec_len, vec_capacity, IfSome, IfOk, OnOk, OnErr};
 ghost use Rattle.std.specs.List.{AllByRecursion, concat, flat_map};
 ghost use Rattle.std.specs.Option.{option_map};
 ghost use Rattle.mon_device.specs.Putting.{Puts, PutsBut};
@@ -232,6 +232,20 @@ impl PackedLines {
             self.bytes.truncate(start);
             self.ends.truncate(at);
         }
+    }
+
+    /// The same lines once more, with the same room.
+    ///
+    /// # Errors
+    ///
+    /// Where a growth was refused.
+    pub fn copy(&self, alloc: Global) -> Result<PackedLines, AllocError>
+        ensures { IfOk result (λ copy. copy ≡ self.now) }
+    {
+        let mut bytes = Vec::with_capacity(alloc, self.bytes.capacity())?;
+        bytes.extend_from_slice(&self.bytes)?;
+        let ends = Vec::from_slice(alloc, &self.ends)?;
+        Ok(PackedLines { bytes, ends })
     }
 }
 
