@@ -1,5 +1,5 @@
 //! The catalogue: data sets in the order of their creation, found by name.
-ghost use Rattle.std.specs.Prelude.{◌≡◌, ◌==◌, ◌<◌, ◌↔◌, [], ◌∷◌, ◌++◌, length, nat_eq, position, slice_get, Ok, OnOk, OnErr, IfSome, IsOk, is_some, IsSome, None};
+ghost use Rattle.std.specs.Prelude.{◌≡◌, ◌==◌, ◌<◌, ◌↔◌, [], ◌∷◌, ◌++◌, length, nat_eq, position, slice_get, Ok, OnOk, OnErr, IfOk, IfSome, IsOk, is_some, IsSome, None};
 ghost use Rattle.std.specs.Borrow.{sem};
 ghost use Rattle.std.specs.Option.{option_copied, option_copied_mut, option_map};
 ghost use Rattle.std.specs.Result.{result_ok};
@@ -245,6 +245,20 @@ impl Catalogue {
         }
     }
 
+    // The same catalogue once more. It stays a call, since it mostly is asked for where there is nothing to copy.
+    #[inline(never)]
+    fn copy(&self) -> Result<Catalogue, AllocError>
+        ensures { IfOk result (λ copy. copy ≡ self.now) }
+    {
+        let alloc = self.allocator();
+        let mut copy = Catalogue::new(alloc);
+        for (name, set) in &self.sets {
+            let copied = set.copy(alloc)?;
+            copy.add(name.copy(), copied)?;
+        }
+        Ok(copy)
+    }
+
     // Puts a set last.
     pub(crate) fn add(&mut self, name: Name, set: DataSet) -> Result<(), AllocError>
         requires absent { find_set name self.old ≡ None }
@@ -260,6 +274,15 @@ impl Catalogue {
 
     pub(crate) fn allocator(&self) -> Global {
         *self.sets.allocator()
+    }
+}
+
+/// The same catalogue once more, in the memory that this one takes its own from.
+impl Clone for Catalogue {
+    ghost is_clone = { λ old copy. copy ≡ old };
+
+    fn clone(&self) -> Result<Catalogue, AllocError> {
+        self.copy()
     }
 }
 

@@ -1,5 +1,5 @@
 //! A data set and its records.
-ghost use Rattle.std.specs.Prelude.{◌≡◌, ◌==◌, ◌<◌, ◌≤◌, ◌-◌, ◌^◌, [], ◌∷◌, ◌++◌, length, slice_get, slice_index_or, IfSome, OnOk, OnErr, IsErrOf};
+ghost use Rattle.std.specs.Prelude.{◌≡◌, ◌==◌, ◌<◌, ◌≤◌, ◌-◌, ◌^◌, [], ◌∷◌, ◌++◌, length, slice_get, slice_index_or, IfSome, IfOk, OnOk, OnErr, IsErrOf};
 ghost use Rattle.std.specs.List.{AllByRecursion, flat_map};
 ghost use Rattle.std.specs.Option.{option_map};
 ghost use Rattle.mon_device.specs.Putting.{Puts};
@@ -174,6 +174,19 @@ impl Records {
             self.lines.truncate(position as usize);
         }
     }
+
+    /// The same records once more.
+    ///
+    /// # Errors
+    ///
+    /// Where a growth was refused.
+    pub fn copy(&self, alloc: Global) -> Result<Records, AllocError>
+        ensures { IfOk result (λ copy. copy ≡ self.now) }
+    {
+        Ok(Records {
+            lines: self.lines.copy(alloc)?,
+        })
+    }
 }
 
 impl DataSet {
@@ -222,5 +235,24 @@ impl DataSet {
         ensures { self.new ≡ recorded (Cut position) self.old }
     {
         self.records.cut_at(position);
+    }
+
+    /// The same set once more.
+    ///
+    /// # Errors
+    ///
+    /// Where a growth was refused.
+    pub fn copy(&self, alloc: Global) -> Result<DataSet, AllocError>
+        ensures { IfOk result (λ copy. copy ≡ self.now) }
+    {
+        let acl = self.acl.copy(alloc)?;
+        let records = self.records.copy(alloc)?;
+        Ok(DataSet {
+            owner: self.owner.copy(),
+            group: self.group.copy(),
+            mode: self.mode,
+            acl,
+            records,
+        })
     }
 }
