@@ -29,3 +29,4 @@ mod Examples
 pub mod Schedules
 pub mod Unseen
 pub mod Parts
+pub mod Sharing

@@ -124,7 +124,8 @@ impl Monitor {
         self.print_other(alloc, command, out)
     }
 
-    // Where a printout shows data sets, a text may have to be made of it before these change, for which what is kept for commands gives way.
+    // Where a printout shows data sets, a text is made of it, or they are copied, before these change: for which what is kept for commands
+    // gives way.
     fn give_way_to(&mut self, out: &Printed)
         ensures { self.new ≡ self.old }
     {

@@ -166,8 +166,8 @@ impl Printed {
 }
 
 impl Printed {
-    /// Makes a text of it where a listing shows data sets, and there is memory for that: so they may change. Where what is printed is
-    /// written before more is, there is no need for it.
+    /// Makes a text of it where a listing shows data sets, and there is memory for that: so they need not be copied before they change.
+    /// Where what is printed is written before more is, there is no need for it.
     pub fn let_go(&mut self)
         ensures { self.new ≡ self.old }
     {

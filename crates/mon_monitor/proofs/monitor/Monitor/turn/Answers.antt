@@ -1,5 +1,5 @@
 use Rattle.std.proofs.Common.{rules, refl, subst}
-use Rattle.mon_monitor.{proofs.Common.{Sets, scheduler, slots_in, scheduler_in, TurnOr, system}, specs.Unseen.{TurnIsolated}, proofs.Unseen.{turn_isolated}}
+use Rattle.mon_monitor.{proofs.Common.{Sets, scheduler, slots_in, scheduler_in, TurnOr, system}, specs.Unseen.{TurnIsolated}, proofs.Unseen.{turn_isolated}, proofs.Sharing.{same_sets}}
 use Rattle.mon_monitor.proofs.monitor.Monitor.turn.Goals as goal
 
 pub returns-clause-isolated : goal.returns-clause-isolated
@@ -9,5 +9,5 @@ returns-clause-isolated g c =
     let left = scheduler_in c.turn.new.self c.turn.new.floor in
     let is : TurnIsolated c.args.slot now c.turn.result (system c.args.self.now.accounts left) =
     turn_isolated c.args.slot now (system c.args.self.now.accounts left) c.turn.result _ _
-    (subst (λ (sets : Sets). TurnOr c.args.slot (scheduler sets slots) c.turn.result left (g.S.Sink.standing c.args.audit.now) (g.S.Sink.standing c.turn.new.floor.audit.now)) c.in-Some.ensures.value c.turn.ensures.turn) refl in
+    (subst (λ (sets : Sets). TurnOr c.args.slot (scheduler sets slots) c.turn.result left (g.S.Sink.standing c.args.audit.now) (g.S.Sink.standing c.turn.new.floor.audit.now)) (same_sets _ _ c.in_ok-catalogue.ensures.value) c.turn.ensures.turn) refl in
     search (rules, is)
