@@ -17,7 +17,7 @@ ghost use Rattle.ledger_machine.specs.Steps.{good_of, step_asked, step_at};
 use crate::running::{Running, play};
 use deck_syntax::first_line;
 use ledger_run::{LedgerError, Outcome};
-use ledger_sets::{State, copy_catalogue, run_change};
+use ledger_sets::{State, run_change};
 use mon_access::Accounts;
 use mon_catalogue::Catalogue;
 use mon_device::TextSink;
@@ -85,10 +85,10 @@ fn read_accounts(alloc: Global, table: &[u8]) -> Result<Accounts, LedgerError>
     }
 }
 
-fn copy_of(alloc: Global, catalogue: &Catalogue) -> Result<Catalogue, LedgerError>
+fn copy_of(catalogue: &Catalogue) -> Result<Catalogue, LedgerError>
     ensures { IfOk result (λ copy. copy ≡ catalogue.now) }
 {
-    match copy_catalogue(alloc, catalogue) {
+    match catalogue.clone() {
         Ok(copy) => Ok(copy),
         Err(_) => Err(LedgerError::from(AllocError)),
     }
@@ -105,7 +105,7 @@ fn run_over(
     ensures { IfOk result (λ outcome. step_asked (site_of state.now) accounts (asked_ahead Closed (lines text.now))
         ≡ (outcome.printout.items, outcome.change.items)) }
 {
-    let sets = copy_of(alloc, &state.catalogue)?;
+    let sets = copy_of(&state.catalogue)?;
     let monitor = Monitor::new(alloc, seed, accounts, sets, 4)?;
     let out = Vec::new(alloc);
     let mut told = Vec::new(alloc);

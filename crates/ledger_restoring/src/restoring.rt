@@ -10,7 +10,7 @@ ghost use Rattle.ledger_restoring.specs.declared.restoring.RestoreFault.TheVaria
 ghost use Rattle.ledger_restoring.specs.Restoring.{restored};
 
 use ledger_sets::laws::{changes_lead, texts_lead};
-use ledger_sets::{copy_catalogue, sets_change};
+use ledger_sets::sets_change;
 use mon_catalogue::{Catalogue, DataSet};
 use mon_text::{Name, Stop};
 use std::alloc::Global;
@@ -47,17 +47,17 @@ pub fn restore_change(
     if past.find(name).is_none() && present.find(name).is_none() {
         return Err(Stop::Refused(RestoreFault::NeverThere));
     }
-    let mut target = copy_of(alloc, present)?;
+    let mut target = copy_of(present)?;
     put_back(alloc, name, past, &mut target)?;
     leading_change(alloc, present, &target)
 }
 
-fn copy_of(alloc: Global, catalogue: &Catalogue) -> Result<Catalogue, Stop<RestoreFault>>
+fn copy_of(catalogue: &Catalogue) -> Result<Catalogue, Stop<RestoreFault>>
     ensures { IfOk result (λ copy. copy ≡ catalogue.now) }
 {
-    match copy_catalogue(alloc, catalogue) {
+    match catalogue.clone() {
         Ok(copy) => Ok(copy),
-        Err(stop) => Err(no_room(stop)),
+        Err(_) => Err(Stop::Memory),
     }
 }
 

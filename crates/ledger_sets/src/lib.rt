@@ -3,7 +3,6 @@
 #![tactic(auto)]
 
 mod applying;
-mod copying;
 mod heads;
 pub mod laws;
 mod reading;
@@ -13,6 +12,5 @@ pub mod site;
 pub mod writing;
 
 pub use applying::apply_change;
-pub use copying::copy_catalogue;
 pub use site::{NoChange, State, Tables};
 pub use writing::{run_change, sets_change, tables_change};
