@@ -5,7 +5,7 @@ ghost use Rattle.acl_text.specs.Printing.{long_line};
 ghost use Rattle.mon_command.specs.Commands.{card_line, heading};
 ghost use Rattle.mon_command.specs.Commanded.{Records as Listed, printed};
 ghost use Rattle.deck_lines.specs.declared.command.Command.TheVariants as command;
-ghost use Rattle.mon_command.specs.Printouts.{word, number, stored_line, count_line, records_text, name_line, acl_text};
+ghost use Rattle.mon_command.specs.Printouts.{word, stored_line, count_line, records_text, name_line, acl_text};
 
 use crate::room::{MOST_ON_LINE, place_name, place_number, put_first};
 use deck_lines::Command;
