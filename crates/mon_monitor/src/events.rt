@@ -8,6 +8,7 @@ ghost use Rattle.mon_command.specs.Saying.{said_of};
 ghost use Rattle.deck_lines.specs.declared.command.Command.TheVariants as commands;
 ghost use Rattle.mon_monitor.specs.Abstraction.{system_of};
 ghost use Rattle.mon_monitor.specs.SystemStates.{with_sets};
+ghost use Rattle.mon_monitor.specs.Printed.{listing};
 ghost use Rattle.mon_monitor.specs.Played.{of_loading};
 ghost use Rattle.mon_monitor.specs.Events.{Serve, Load, Give, Drain};
 ghost use Rattle.mon_monitor.specs.Audit.{event_lines, loading_lines};
@@ -150,8 +151,7 @@ impl Monitor {
     {
         match self.listed(account, name) {
             Ok(records) if records.len() > FEW_RECORDS => {
-                let sets = self.catalogue.clone()?;
-                out.put_piece(Piece::Listed(sets, account.copy(), name.copy()))?;
+                self.put_shared(account, name, out)?;
                 Ok(Some(Said::Records(records.len())))
             }
             Ok(records) if out.rest.is_empty() => {
@@ -164,6 +164,22 @@ impl Monitor {
                 Ok(Some(said))
             }
         }
+    }
+
+    // Appends the printout of a command that lists records, to be shown from where they stand. It stays a call, since the room for a
+    // piece is cleared where this stands, and most lists are short.
+    #[inline(never)]
+    fn put_shared(
+        &self,
+        account: &Name,
+        name: &Name,
+        out: &mut Printed,
+    ) -> Result<(), AllocError>
+        ensures printed { OnOk result (out.new ≡ out.old ++ listing account.now name.now (system_of self.now).scheduler.sets) }
+        ensures nothing { OnErr result (out.new ≡ out.old) }
+    {
+        let sets = self.catalogue.clone()?;
+        out.put_piece(Piece::Listed(sets, account.copy(), name.copy()))
     }
 
     // Serves a command and appends its printout as a text, behind pieces as one of them.
