@@ -109,6 +109,7 @@ impl DeckState {
     {
         match self {
             DeckState::Reading(Section::Front(reader)) => reader.take_record(text),
+            DeckState::Reading(Section::Stream(StreamReader::Cards, _)) => false,
             DeckState::Reading(Section::Stream(reader, _)) => reader.take_inner_line(alloc, text),
             DeckState::Stopped(_) | DeckState::Refused(..) | DeckState::NoMemory => false,
         }
