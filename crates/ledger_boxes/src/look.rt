@@ -44,11 +44,11 @@ pub enum BoxFault {
     Missing,
     /// It is no folder.
     NoFolder,
-    /// It is neither its user's nor the keeper's.
+    /// It is neither its user's nor the operator's.
     NotOwn,
     /// Others may write there.
     Open,
-    /// The keeper can take no name out of it.
+    /// The operator can take no name out of it.
     Sticky,
 }
 

@@ -6,21 +6,21 @@ ghost use Rattle.ledger_boxes.specs.Serving.{fault_in, box_fault};
 use crate::look::{BoxFault, BoxLook, Kind};
 
 /// Why the box of this user is passed over, if it is; the others are served all the same.
-pub fn box_fault(keeper: u64, uid: u64, look: Option<BoxLook>) -> Option<BoxFault>
-    ensures { result ≡ box_fault keeper uid look }
+pub fn box_fault(operator: u64, uid: u64, look: Option<BoxLook>) -> Option<BoxFault>
+    ensures { result ≡ box_fault operator uid look }
 {
     match look {
         None => Some(BoxFault::Missing),
-        Some(look) => fault_in(keeper, uid, look),
+        Some(look) => fault_in(operator, uid, look),
     }
 }
 
-fn fault_in(keeper: u64, uid: u64, look: BoxLook) -> Option<BoxFault>
-    ensures { result ≡ fault_in keeper uid look }
+fn fault_in(operator: u64, uid: u64, look: BoxLook) -> Option<BoxFault>
+    ensures { result ≡ fault_in operator uid look }
 {
     if !is_folder(look.kind) {
         Some(BoxFault::NoFolder)
-    } else if !(look.owner == uid || look.owner == keeper) {
+    } else if !(look.owner == uid || look.owner == operator) {
         Some(BoxFault::NotOwn)
     } else if look.is_open {
         Some(BoxFault::Open)

@@ -41,7 +41,7 @@ pub struct Head<'a> {
     pub jobs: u64,
     /// The texts that wait and the answers that are owed, as whoever opens the ledger writes them.
     pub course: &'a [u8],
-    /// The keeper's tables, as a record has them.
+    /// The operator's tables, as a record has them.
     pub tables: &'a [u8],
 }
 

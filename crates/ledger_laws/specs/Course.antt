@@ -7,7 +7,7 @@ pub record Machine (Text Out State Change : Type 0) : Type 0 where
   pub step : Text → State → Out × Change
   pub change : Change → State → State
 
--- a text was taken, or refused with a reply, or ran, or was dropped with a reply; or the keeper changed the state, or nothing changed
+-- a text was taken, or refused with a reply, or ran, or was dropped with a reply; or the operator changed the state, or nothing changed
 pub data Record (Text Out Change : Type 0) : Type 0 where
   Took : ℕ → Text → Record Text Out Change
   Refused : ℕ → Out → Record Text Out Change

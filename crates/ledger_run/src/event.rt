@@ -25,7 +25,7 @@ pub(crate) enum Event<'a> {
     Ran(u64, &'a [u8], &'a [u8]),
     /// It was dropped, with this reply.
     Dropped(u64, &'a [u8]),
-    /// The keeper changed this.
+    /// The operator changed this.
     Edited(&'a [u8]),
     /// The answers so far are on the disk.
     Gave,

@@ -96,7 +96,7 @@ fn runs(said: Record<'_>) -> bool
     matches!(said, Record::Ran(_, _))
 }
 
-/// Records what is no text's run: a file was taken or refused, the first text that waits dropped, or the keeper did something, with what
+/// Records what is no text's run: a file was taken or refused, the first text that waits dropped, or the operator did something, with what
 /// that changes. A crash at any moment leaves the ledger as it was, or with this commit.
 ///
 /// # Errors

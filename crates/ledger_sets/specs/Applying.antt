@@ -15,7 +15,7 @@ use Rattle.ledger_text.specs.Text.{commit_of}
 use Rattle.ledger_text.specs.Records as said
 use Rattle.ledger_text.specs.Records.{Said, said_of}
 
--- the data sets, how many jobs ran so far, and the keeper's three texts
+-- the data sets, how many jobs ran so far, and the operator's three texts
 pub record Site : Type 0 where
   pub sets : Sets
   pub jobs : ℕ
@@ -59,7 +59,7 @@ setting name (Err stop) sets = None
 abbrev pub removing : List ℕ → Sets → Option Sets
 removing name sets = if is_some (find_set name sets) then Some (without_set name sets) else None
 
--- the keeper's three texts
+-- the operator's three texts
 abbrev pub tabled : Option (List (List ℕ)) → Site → Option Site
 tabled (Some (accounts ∷ users ∷ limits ∷ [])) site =
     Some (record { sets = site.sets; jobs = site.jobs; accounts = accounts; users = users; limits = limits })

@@ -57,7 +57,7 @@ changes_between (old ∷ before) (new ∷ after) =
 abbrev pub run_changes : ℕ → List ℕ → Sets → Sets → List Said
 run_changes jobs audit before after = Audit jobs audit ∷ changes_between before after
 
--- the keeper's tables are these
+-- the operator's tables are these
 abbrev pub tables_changes : List ℕ → List ℕ → List ℕ → List Said
 tables_changes accounts users limits = Tables (commit_text (accounts ∷ users ∷ limits ∷ [])) ∷ []
 

@@ -2,7 +2,7 @@
 use mon_catalogue::Catalogue;
 use std::alloc::Global;
 
-/// The keeper's texts, as they stand.
+/// The operator's texts, as they stand.
 #[derive(Drop)]
 pub struct Tables {
     /// The account table.
@@ -20,7 +20,7 @@ pub struct State {
     pub catalogue: Catalogue,
     /// How many jobs ran so far.
     pub jobs: u64,
-    /// The keeper's texts.
+    /// The operator's texts.
     pub tables: Tables,
 }
 

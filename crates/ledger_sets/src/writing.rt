@@ -10,7 +10,7 @@ use ledger_text::{Record, commit_text, record_text};
 use mon_catalogue::Catalogue;
 use std::alloc::{AllocError, Global};
 
-/// The change from one catalogue to another, as the keeper makes it.
+/// The change from one catalogue to another, as the operator makes it.
 ///
 /// # Errors
 ///
@@ -47,7 +47,7 @@ pub fn run_change(
     text_of_all(alloc, &texts)
 }
 
-/// The keeper's texts are these.
+/// The operator's texts are these.
 ///
 /// # Errors
 ///

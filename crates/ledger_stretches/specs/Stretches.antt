@@ -1,4 +1,4 @@
--- Records between two acts of the keeper (own): which texts ran there, what they printed, and what such texts print that run one after the
+-- Records between two acts of the operator (own): which texts ran there, what they printed, and what such texts print that run one after the
 -- other.
 use Rattle.std.specs.Prelude.{ℕ, List, [], ◌∷◌, ◌++◌}
 use Rattle.std.specs.List.{AllByRecursion}
@@ -22,7 +22,7 @@ run_all machine (one ∷ texts) state =
 
 -- ---- records
 
--- the keeper changes nothing by it
+-- the operator changes nothing by it
 abbrev pub IsNoEdit : {Text Out Change : Type 0} → Record Text Out Change → Type 0
 IsNoEdit (Took n text) = Unit {0}
 IsNoEdit (Refused n reply) = Unit {0}

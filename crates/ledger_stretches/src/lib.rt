@@ -1,4 +1,4 @@
-//! What holds of the stretches of a ledger: of the records between two acts of the keeper.
+//! What holds of the stretches of a ledger: of the records between two acts of the operator.
 #![tactic(auto)]
 
 pub mod laws;

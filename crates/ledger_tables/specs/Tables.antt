@@ -1,4 +1,4 @@
--- The tables of a keeper, as the ledger has them (own): the texts of the accounts, of the users and of the limits, each behind its
+-- The tables of an operator, as the ledger has them (own): the texts of the accounts, of the users and of the limits, each behind its
 -- length.
 use Rattle.std.specs.Prelude.{◌≡◌, ◌<◌, ◌^◌, ℕ, List, [], ◌∷◌, length, Option, Some, None, Result, Ok, Err}
 use Rattle.std.specs.Option.{option_and_then}

@@ -1,4 +1,4 @@
-//! The tables of a site's keeper, accounts, users and limits, as the ledger has them: read from their texts, and printed.
+//! The tables of a site's operator, accounts, users and limits, as the ledger has them: read from their texts, and printed.
 #![tactic(auto)]
 
 pub mod laws;

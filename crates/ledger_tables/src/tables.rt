@@ -1,4 +1,4 @@
-//! The tables of a keeper: as texts in a record, and as what these say.
+//! The tables of an operator: as texts in a record, and as what these say.
 ghost use Rattle.std.specs.Prelude.{◌≡◌, option_map, IfOk};
 ghost use Rattle.mon_text.specs.Stops.{Gives};
 ghost use Rattle.site_plan.specs.Tables.{table_of};
@@ -13,7 +13,7 @@ use mon_text::Stop;
 use site_plan::{TableFault, User, UsersFault, read_table, read_users};
 use std::alloc::{AllocError, Global};
 
-/// The texts of the keeper's files.
+/// The texts of the operator's files.
 #[derive(Clone, Copy)]
 pub struct Texts<'a> {
     /// Of the accounts.

@@ -77,7 +77,7 @@ short_of kind number body =
     else if pointwise nat_eq kind (codes "GAVE") then option_map (Gave number) (count_of body)
     else None
 
--- of a kind, a word, which is a number but in what the keeper did, and a body
+-- of a kind, a word, which is a number but in what the operator did, and a body
 abbrev pub pair_of : List ℕ → List ℕ → List ℕ → Option Said
 pair_of kind word body =
     if pointwise nat_eq kind (codes "EDIT") then Some (Edit word body)

@@ -42,11 +42,11 @@ pub enum Record<'a> {
     Dropped(u64, &'a [u8], &'a [u8]),
     /// The answers from one number to another are on the disk.
     Gave(u64, u64),
-    /// The tables of the keeper.
+    /// The tables of the operator.
     Tables(&'a [u8]),
     /// A checkpoint of the state behind so many commits stands, with this digest.
     Checked(u64, &'a [u8]),
-    /// The keeper did this.
+    /// The operator did this.
     Edit(&'a [u8], &'a [u8]),
 }
 

@@ -3,8 +3,8 @@ ghost use Rattle.std.specs.Prelude.{IfOk};
 ghost use Rattle.rounds.specs.Compositions.{IsWholeHead};
 
 use crate::fault::{Fault, Wrong};
-use crate::keeper::{Keeper, file};
 use crate::numbers::last_round;
+use crate::operator_files::{OperatorFiles, file};
 use crate::place::{Place, System};
 use crate::running::{Stage, stage_of};
 use crate::serving::{damaged, plan_there};
@@ -19,12 +19,12 @@ use std::io::ErrorKind;
 const CATALOGUE: &[u8] = b"catalogue";
 
 /// How a round begins over the accounts and the catalogue as they stand.
-pub fn begin<R: System>(place: &Place<R>, keeper: &Keeper) -> Result<Beginning, Fault>
+pub fn begin<R: System>(place: &Place<R>, operator: &OperatorFiles) -> Result<Beginning, Fault>
     ensures { IfOk result (λ begun. IsWholeHead begun.head.text.items) }
 {
     let alloc = place.rt.alloc();
     let bytes = file(place, CATALOGUE)?;
-    match begin_round(alloc, &keeper.table, &keeper.accounts, bytes) {
+    match begin_round(alloc, &operator.table, &operator.accounts, bytes) {
         Ok(begun) => Ok(begun),
         Err(Stop::Refused(refusal)) => Err(place.wrong(CATALOGUE, wrong_catalogue(refusal))),
         Err(Stop::Memory) => Err(Fault::Memory),

@@ -1,7 +1,7 @@
-//! Claiming what users dropped: each file is brought to where only the keeper can write, and only then looked at. It gets a second name
+//! Claiming what users dropped: each file is brought to where only the operator can write, and only then looked at. It gets a second name
 //! there, which a folder cannot have, and then loses that in the box: so it is never without a name, and a run that breaks off leaves it both.
 use crate::fault::Fault;
-use crate::keeper::Keeper;
+use crate::operator_files::OperatorFiles;
 use crate::place::{Linked, Place, System};
 use crate::status::fault_of_box;
 use mon_text::Name;
@@ -53,13 +53,13 @@ impl Claims {
 /// is passed over, and told.
 pub fn claim<R: System>(
     place: &mut Place<R>,
-    keeper: &Keeper,
+    operator: &OperatorFiles,
     claims: &mut Claims,
     passed: &mut Vec<Fault>,
 ) -> Result<(), Fault> {
-    let most = keeper.terms.limits.texts.saturating_mul(2);
-    for index in 0..keeper.accounts.len() {
-        if let Some(account) = keeper.accounts.at(index) {
+    let most = operator.terms.limits.texts.saturating_mul(2);
+    for index in 0..operator.accounts.len() {
+        if let Some(account) = operator.accounts.at(index) {
             claim_box(place, &account.name, most, claims, passed)?;
         }
     }
@@ -443,7 +443,7 @@ pub fn look_at<R: System>(
     Ok(Claimed { taken, file, found })
 }
 
-// What stands in a claimed file. One that was put off was written by the keeper himself.
+// What stands in a claimed file. One that was put off was written by the operator himself.
 fn find<R: System>(
     place: &Place<R>,
     most: u64,

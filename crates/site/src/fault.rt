@@ -34,7 +34,7 @@ pub enum Wrong {
     OtherCatalogue(u64),
 }
 
-/// That a file of the keeper's, written by the site, is not as it was written.
+/// That a file of the operator's, written by the site, is not as it was written.
 pub const DAMAGED: Wrong = Wrong::Words("is damaged");
 
 /// The exit status of a fault.
@@ -114,7 +114,7 @@ impl fmt::Display for Fault {
     }
 }
 
-// A path as it is told: users choose names of files, and a line that the keeper reads has none of their control characters. A byte that is
+// A path as it is told: users choose names of files, and a line that the operator reads has none of their control characters. A byte that is
 // no printing ASCII, and a backslash, stands as `\xNN`.
 #[derive(Clone, Copy)]
 struct Shown<'a>(&'a str);

@@ -6,10 +6,10 @@ mod catalogue;
 mod checking;
 mod claiming;
 mod fault;
-mod keeper;
 mod making;
 mod numbers;
 mod opening;
+mod operator_files;
 mod options;
 mod place;
 mod planning;
@@ -122,7 +122,7 @@ fn is_held(rt: &HostRuntime, top: &str) -> bool {
     }
 }
 
-// It is opened only where it is a file of the keeper's: to open a pipe would be to wait.
+// It is opened only where it is a file of the operator's: to open a pipe would be to wait.
 fn look_at_lock(rt: &HostRuntime, top: &str) -> Option<File> {
     refuse_lock(*rt, top).ok()?;
     let path = joined(rt.alloc(), top, "lock").ok()?;

@@ -1,8 +1,8 @@
 //! `snomon-site init`: the folder of a site is made.
 use crate::catalogue::wrong_in;
 use crate::fault::{Fault, Wrong};
-use crate::keeper::{accounts_in, terms_in, users_in};
 use crate::numbers::{NEXT, first_text};
+use crate::operator_files::{accounts_in, terms_in, users_in};
 use crate::options::{Init, Sources};
 use crate::place::{Place, System, read_there};
 use mon_access::Accounts;

@@ -1,7 +1,7 @@
 //! What a run does first: all that it reads is on the disk then, whatever ended the run before.
 use crate::claiming::{all_taken, is_same, pass};
 use crate::fault::Fault;
-use crate::keeper::Keeper;
+use crate::operator_files::OperatorFiles;
 use crate::place::{Place, System};
 use crate::status::fault_of_box;
 use mon_text::Name;
@@ -17,7 +17,7 @@ use std::{fs, io};
 /// boxes. A box that cannot be opened is closed for this run, and told.
 pub fn open_folders<R: System>(
     place: &mut Place<R>,
-    keeper: &Keeper,
+    operator: &OperatorFiles,
     passed: &mut Vec<Fault>,
 ) -> Result<(), Fault> {
     for folder in [b"".as_slice(), b"in", b"taken", b"rounds", b"out"] {
@@ -25,7 +25,7 @@ pub fn open_folders<R: System>(
     }
     put_folders_aside(place)?;
     let twice = named_twice(place)?;
-    open_accounts(place, keeper, &twice, passed)?;
+    open_accounts(place, operator, &twice, passed)?;
     place.settle_disk()
 }
 
@@ -86,12 +86,12 @@ fn add_named_twice<R: System>(
 
 fn open_accounts<R: System>(
     place: &mut Place<R>,
-    keeper: &Keeper,
+    operator: &OperatorFiles,
     twice: &[Twice],
     passed: &mut Vec<Fault>,
 ) -> Result<(), Fault> {
-    for index in 0..keeper.accounts.len() {
-        if let Some(account) = keeper.accounts.at(index) {
+    for index in 0..operator.accounts.len() {
+        if let Some(account) = operator.accounts.at(index) {
             bring_answers(place, &account.name)?;
             open_box(place, &account.name, twice, passed)?;
         }

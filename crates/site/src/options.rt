@@ -185,13 +185,13 @@ fn error_of_command(alloc: Global, kind: ErrorKind, words: &str) -> Result<Error
 }
 
 // What follows the list of commands in the help.
-const AFTER_HELP: &str = "A keeper makes a site once, and starts `snomon-site run` by a timer:
+const AFTER_HELP: &str = "An operator makes a site once, and starts `snomon-site run` by a timer:
 
   snomon-site init /srv/site --accounts accounts --users users
   snomon-site run /srv/site
 
-Exit status: 0 where all was done, and for this help and the version; 1 where a text was refused
-or put off and all else done, or where a round's bytes are others; 2 where the words ask nothing;
+Exit status: 0 where all was done, and for this help and the version; 1 where a submission was refused
+or deferred and all else done, or where a round's bytes are others; 2 where the words ask nothing;
 3 where reading, writing or memory failed, or the folder is not as it must be; 4 where another run
 holds the lock.
 ";

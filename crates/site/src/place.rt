@@ -473,7 +473,7 @@ impl<R: System> Place<R> {
         Ok(())
     }
 
-    // Who is to read a file: one of the users, or the keeper alone.
+    // Who is to read a file: one of the users, or the operator alone.
     fn reader_of(&self, name: &[u8]) -> Option<u32> {
         let rest = name.strip_prefix(b"out/")?;
         let account = read_name(folder_of(rest)).ok()?;
@@ -649,7 +649,7 @@ fn without_second_name<R: System>(rt: &R, beside: &String, answer: bool) -> io::
     Ok(answer)
 }
 
-// The same where no file can have a second name. Nobody but the keeper writes into the folder.
+// The same where no file can have a second name. Nobody but the operator writes into the folder.
 fn move_if_free<R: System>(rt: &R, beside: &String, path: &String) -> io::Result<bool> {
     match if_there(fs::symlink_metadata(rt, path.as_str()))? {
         Some(_) => without_second_name(rt, beside, false),

@@ -2,8 +2,8 @@
 use crate::catalogue::begin;
 use crate::claiming::{Claims, Drawn, all_taken, claim, look_at};
 use crate::fault::{DAMAGED, Fault};
-use crate::keeper::Keeper;
 use crate::numbers::next_number;
+use crate::operator_files::OperatorFiles;
 use crate::place::{Place, System};
 use mon_text::Stop;
 use rounds::{Beginning, Planned, plan_texts};
@@ -14,25 +14,25 @@ use std::alloc::{AllocError, Global};
 /// claimed. Boxes that are passed over are told.
 pub fn plan_round<R: System>(
     place: &mut Place<R>,
-    keeper: &Keeper,
+    operator: &OperatorFiles,
     n: u64,
     passed: &mut Vec<Fault>,
 ) -> Result<Option<Planned>, Fault> {
-    let claims = draw(place, keeper, n, passed)?;
+    let claims = draw(place, operator, n, passed)?;
     if claims.drawn.is_empty() {
         return Ok(None);
     }
-    let planned = plan_and_fix(place, keeper, n, claims)?;
+    let planned = plan_and_fix(place, operator, n, claims)?;
     Ok(Some(planned))
 }
 
 fn plan_and_fix<R: System>(
     place: &mut Place<R>,
-    keeper: &Keeper,
+    operator: &OperatorFiles,
     n: u64,
     claims: Claims,
 ) -> Result<Planned, Fault> {
-    let planned = make_plan(place, keeper, n, claims)?;
+    let planned = make_plan(place, operator, n, claims)?;
     fix(place, n, &planned)?;
     Ok(planned)
 }
@@ -40,7 +40,7 @@ fn plan_and_fix<R: System>(
 // The files that a round is about.
 fn draw<R: System>(
     place: &mut Place<R>,
-    keeper: &Keeper,
+    operator: &OperatorFiles,
     n: u64,
     passed: &mut Vec<Fault>,
 ) -> Result<Claims, Fault> {
@@ -48,7 +48,7 @@ fn draw<R: System>(
     let next = next_number(place, n)?;
     match first_alone(&standing) {
         Some(alone) => Ok(alone_drawn(place.rt.alloc(), alone, next)?),
-        None => draw_all(place, keeper, n, standing, next, passed),
+        None => draw_all(place, operator, n, standing, next, passed),
     }
 }
 
@@ -70,7 +70,7 @@ fn alone_drawn(alloc: Global, taken: &Taken, next: u64) -> Result<Claims, AllocE
 // The files that stand there already, and those that are claimed now.
 fn draw_all<R: System>(
     place: &mut Place<R>,
-    keeper: &Keeper,
+    operator: &OperatorFiles,
     n: u64,
     standing: Vec<Taken>,
     next: u64,
@@ -78,7 +78,7 @@ fn draw_all<R: System>(
 ) -> Result<Claims, Fault> {
     let drawn = named(place, n, standing)?;
     let mut claims = Claims { drawn, next };
-    claim(place, keeper, &mut claims, passed)?;
+    claim(place, operator, &mut claims, passed)?;
     Ok(claims)
 }
 
@@ -132,26 +132,26 @@ fn plan_in<R: System>(place: &Place<R>, n: u64, text: &[u8]) -> Result<Option<Pl
 // The plan of claimed files, with the deck and the replies.
 fn make_plan<R: System>(
     place: &Place<R>,
-    keeper: &Keeper,
+    operator: &OperatorFiles,
     n: u64,
     claims: Claims,
 ) -> Result<Planned, Fault> {
     let Claims { drawn, next } = claims;
-    let Beginning { head, held } = begin(place, keeper)?;
-    let judged = judge_all(place, keeper, &held, drawn)?;
+    let Beginning { head, held } = begin(place, operator)?;
+    let judged = judge_all(place, operator, &held, drawn)?;
     Ok(plan_texts(place.rt.alloc(), n, next, head, judged)?)
 }
 
 fn judge_all<R: System>(
     place: &Place<R>,
-    keeper: &Keeper,
+    operator: &OperatorFiles,
     held: &[Holding],
     drawn: Vec<Drawn>,
 ) -> Result<Judged, Fault> {
     let alloc = place.rt.alloc();
-    let mut judged = Judged::new(alloc, &keeper.accounts, &keeper.terms.limits, held)?;
+    let mut judged = Judged::new(alloc, &operator.accounts, &operator.terms.limits, held)?;
     for one in drawn {
-        judge_one(place, keeper, &mut judged, one)?;
+        judge_one(place, operator, &mut judged, one)?;
     }
     Ok(judged)
 }
@@ -159,12 +159,12 @@ fn judge_all<R: System>(
 // Looks at a file, and judges it. What is refused is let go at once.
 fn judge_one<R: System>(
     place: &Place<R>,
-    keeper: &Keeper,
+    operator: &OperatorFiles,
     judged: &mut Judged,
     drawn: Drawn,
 ) -> Result<(), Fault> {
     let Drawn { taken, file } = drawn;
-    let claimed = look_at(place, keeper.terms.limits.bytes, taken, file)?;
+    let claimed = look_at(place, operator.terms.limits.bytes, taken, file)?;
     judged.judge(place.rt.alloc(), claimed)?;
     Ok(())
 }

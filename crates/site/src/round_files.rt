@@ -1,6 +1,6 @@
 //! The files of a round, by the endings of their names.
 use crate::fault::{Fault, Wrong};
-use crate::keeper::file;
+use crate::operator_files::file;
 use crate::place::{Place, System};
 use site_folder::{FolderError, round_name};
 

@@ -1,9 +1,9 @@
 //! `snomon-site run`: what a round before left is brought to its end, and then the next round is run.
 use crate::claiming::all_taken;
 use crate::fault::Fault;
-use crate::keeper::{Keeper, open_site};
 use crate::numbers::{keep_numbers, last_round, round_behind};
 use crate::opening::open_folders;
+use crate::operator_files::{OperatorFiles, open_site};
 use crate::place::{Place, System};
 use crate::planning::{plan_of, plan_round};
 use crate::serving::{Tally, plan_there, serve, serve_there, settle_round};
@@ -35,10 +35,10 @@ pub fn run_site<R: System>(
     tells: bool,
     report: &mut Report,
 ) -> Result<(), Fault> {
-    let (mut place, keeper) = open_site(rt, top)?;
+    let (mut place, operator) = open_site(rt, top)?;
     place.tells = tells;
-    refuse_open(&place, &keeper)?;
-    let ended = run_opened(&mut place, &keeper, report);
+    refuse_open(&place, &operator)?;
+    let ended = run_opened(&mut place, &operator, report);
     for fault in place.take_noted() {
         report.passed.push(fault)?;
     }
@@ -47,25 +47,25 @@ pub fn run_site<R: System>(
 
 fn run_opened<R: System>(
     place: &mut Place<R>,
-    keeper: &Keeper,
+    operator: &OperatorFiles,
     report: &mut Report,
 ) -> Result<(), Fault> {
-    open_folders(place, keeper, &mut report.passed)?;
+    open_folders(place, operator, &mut report.passed)?;
     let next = finish_last(place, report)?;
-    serve_dropped(place, keeper, next, report)
+    serve_dropped(place, operator, next, report)
 }
 
 // Serves what users dropped, in rounds of which the first has this number.
 fn serve_dropped<R: System>(
     place: &mut Place<R>,
-    keeper: &Keeper,
+    operator: &OperatorFiles,
     first: u64,
     report: &mut Report,
 ) -> Result<(), Fault> {
     let alone = number_alone(place)?;
     let mut n = first;
     for _ in 0..=alone {
-        match serve_next(place, keeper, n, report)? {
+        match serve_next(place, operator, n, report)? {
             Some(next) => n = next,
             None => return Ok(()),
         }
@@ -81,11 +81,11 @@ fn number_alone<R: System>(place: &Place<R>) -> Result<usize, Fault> {
 // Plans a round and serves it. Answers the number of the next one, if there was one.
 fn serve_next<R: System>(
     place: &mut Place<R>,
-    keeper: &Keeper,
+    operator: &OperatorFiles,
     n: u64,
     report: &mut Report,
 ) -> Result<Option<u64>, Fault> {
-    match plan_round(place, keeper, n, &mut report.passed)? {
+    match plan_round(place, operator, n, &mut report.passed)? {
         Some(planned) => {
             keep_numbers(place, n, &planned.plan)?;
             let next = note(report, n, serve(place, n, planned))?;

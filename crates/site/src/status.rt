@@ -1,8 +1,8 @@
 //! `snomon-site status`: what stands, and what is not as it must be.
 use crate::catalogue::fault_of_catalogue;
 use crate::fault::{Fault, Wrong};
-use crate::keeper::Keeper;
 use crate::numbers::NEXT;
+use crate::operator_files::OperatorFiles;
 use crate::place::{Place, System};
 use mon_text::Name;
 use rounds::{answer_folder, box_name};
@@ -64,14 +64,14 @@ pub struct Faults {
 }
 
 /// All that is wrong with a site.
-pub fn faults_of<R: System>(place: &Place<R>, keeper: &Keeper) -> Result<Faults, Fault> {
+pub fn faults_of<R: System>(place: &Place<R>, operator: &OperatorFiles) -> Result<Faults, Fault> {
     let alloc = place.rt.alloc();
     let mut faults = Faults {
         grave: Vec::new(alloc),
         boxes: Vec::new(alloc),
     };
     match place.look(b"")? {
-        Some(top) => check_all(place, keeper, top.uid(), &mut faults)?,
+        Some(top) => check_all(place, operator, top.uid(), &mut faults)?,
         None => faults.grave.push(place.wrong(b"", MISSING))?,
     }
     Ok(faults)
@@ -79,22 +79,22 @@ pub fn faults_of<R: System>(place: &Place<R>, keeper: &Keeper) -> Result<Faults,
 
 fn check_all<R: System>(
     place: &Place<R>,
-    keeper: &Keeper,
+    operator: &OperatorFiles,
     owner: u32,
     faults: &mut Faults,
 ) -> Result<(), Fault> {
     check_own(place, owner, &mut faults.grave)?;
-    check_users(place, keeper, owner, faults)
+    check_users(place, operator, owner, faults)
 }
 
 /// Refuses a site with which something is wrong, except a box; and one that is not of who runs the program.
-pub fn refuse_open<R: System>(place: &Place<R>, keeper: &Keeper) -> Result<(), Fault> {
-    refuse_faults(place, keeper)?;
+pub fn refuse_open<R: System>(place: &Place<R>, operator: &OperatorFiles) -> Result<(), Fault> {
+    refuse_faults(place, operator)?;
     refuse_stranger(place)
 }
 
-fn refuse_faults<R: System>(place: &Place<R>, keeper: &Keeper) -> Result<(), Fault> {
-    let faults = faults_of(place, keeper)?;
+fn refuse_faults<R: System>(place: &Place<R>, operator: &OperatorFiles) -> Result<(), Fault> {
+    let faults = faults_of(place, operator)?;
     match faults.grave.into_iter().next() {
         Some(fault) => Err(fault),
         None => Ok(()),
@@ -110,7 +110,7 @@ fn refuse_stranger<R: System>(place: &Place<R>) -> Result<(), Fault> {
     }
 }
 
-// What is the keeper's.
+// What is the operator's.
 fn check_own<R: System>(place: &Place<R>, uid: u32, faults: &mut Vec<Fault>) -> Result<(), Fault> {
     let due: [(&[u8], Due); 9] = [
         (b"", FOLDER),
@@ -131,7 +131,7 @@ fn check_own<R: System>(place: &Place<R>, uid: u32, faults: &mut Vec<Fault>) -> 
     check_catalogue(place, faults)
 }
 
-// A file of the keeper's alone, which a run makes where it is missing.
+// A file of the operator's alone, which a run makes where it is missing.
 fn check_if_there<R: System>(
     place: &Place<R>,
     name: &[u8],
@@ -144,7 +144,7 @@ fn check_if_there<R: System>(
     }
 }
 
-/// Refuses a lock that is not the keeper's alone: somebody else could hold it.
+/// Refuses a lock that is not the operator's alone: somebody else could hold it.
 pub fn refuse_lock<R: System>(rt: R, top: &str) -> Result<(), Fault> {
     let top = String::from_str(rt.alloc(), top)?;
     let place = Place::new(rt, top);
@@ -168,12 +168,12 @@ fn check_catalogue<R: System>(place: &Place<R>, faults: &mut Vec<Fault>) -> Resu
 // What is the users'.
 fn check_users<R: System>(
     place: &Place<R>,
-    keeper: &Keeper,
+    operator: &OperatorFiles,
     owner: u32,
     faults: &mut Faults,
 ) -> Result<(), Fault> {
-    for index in 0..keeper.accounts.len() {
-        if let Some(account) = keeper.accounts.at(index) {
+    for index in 0..operator.accounts.len() {
+        if let Some(account) = operator.accounts.at(index) {
             check_user(place, owner, &account.name, faults)?;
         }
     }
@@ -218,7 +218,7 @@ fn check_answers<R: System>(
     check(place, &name, owner, FOLDER, faults)
 }
 
-/// What is wrong with the box of this user, for which it is not claimed from. It is the user's, or the keeper's.
+/// What is wrong with the box of this user, for which it is not claimed from. It is the user's, or the operator's.
 pub fn fault_of_box<R: System>(
     place: &Place<R>,
     name: &[u8],
@@ -244,7 +244,7 @@ fn wrong_with_box<R: System>(
     }
 }
 
-// Who a box's owner has to be: the keeper where he is, and else the user.
+// Who a box's owner has to be: the operator where he is, and else the user.
 fn owner_of_box<R: System>(place: &Place<R>, seen: &Metadata, uid: u32) -> Result<u32, Fault> {
     match place.look(b"in")? {
         Some(folder) if folder.uid() == seen.uid() => Ok(folder.uid()),

@@ -2,8 +2,8 @@
 use crate::checking::Checked;
 use crate::claiming::{all_taken, waiting};
 use crate::fault::{FAILED, Fault};
-use crate::keeper::{Keeper, open_site};
 use crate::numbers::{last_round, refuse_damaged};
+use crate::operator_files::{OperatorFiles, open_site};
 use crate::place::{Place, System};
 use crate::progress::{Progress, progress_there, seconds_now};
 use crate::running::{Report, Served};
@@ -14,7 +14,7 @@ use mon_text::Name;
 use rounds::box_name;
 use std::{io, str};
 
-/// The exit status where a text was refused, or put off, and all else was done; or where the bytes of a round are others.
+/// The exit status where a submission was refused, or deferred, and all else was done; or where the bytes of a round are others.
 const REFUSED: u8 = 1;
 
 /// The exit status where the words ask nothing.
@@ -127,7 +127,7 @@ pub fn tell_verified<R: Print + Eprint>(rt: &R, n: u64, same: Result<bool, Fault
 pub fn tell_status<R: Teller>(rt: &R, top: String, is_held: bool) -> u8 {
     match rt.clone() {
         Ok(own) => match open_site(own, top) {
-            Ok((place, keeper)) => match tell_standing(rt, &place, &keeper, is_held) {
+            Ok((place, operator)) => match tell_standing(rt, &place, &operator, is_held) {
                 Ok(status) => status,
                 Err(fault) => tell_fault(rt, &fault),
             },
@@ -140,10 +140,10 @@ pub fn tell_status<R: Teller>(rt: &R, top: String, is_held: bool) -> u8 {
 fn tell_standing<R: Teller>(
     rt: &R,
     place: &Place<R>,
-    keeper: &Keeper,
+    operator: &OperatorFiles,
     is_held: bool,
 ) -> Result<u8, Fault> {
-    let faults = faults_of(place, keeper)?;
+    let faults = faults_of(place, operator)?;
     tell_faults(rt, &faults.boxes);
     tell_faults(rt, &faults.grave);
     if !faults.grave.is_empty() {
@@ -151,7 +151,7 @@ fn tell_standing<R: Teller>(
     }
     refuse_damaged(place)?;
     tell_progress(rt, place, is_held)?;
-    tell_work(rt, place, keeper)?;
+    tell_work(rt, place, operator)?;
     Ok(if faults.boxes.is_empty() { 0 } else { FAILED })
 }
 
@@ -187,9 +187,9 @@ fn tell_ended<R: Teller>(rt: &R, far: Progress) -> io::Result<()> {
 }
 
 // Tells what was done, and what waits.
-fn tell_work<R: Teller>(rt: &R, place: &Place<R>, keeper: &Keeper) -> Result<(), Fault> {
+fn tell_work<R: Teller>(rt: &R, place: &Place<R>, operator: &OperatorFiles) -> Result<(), Fault> {
     tell_last(rt, place)?;
-    tell_boxes(rt, place, keeper)
+    tell_boxes(rt, place, operator)
 }
 
 // Tells where the last round stands, and how many claimed files there are.
@@ -217,9 +217,9 @@ fn tell_last_round<R: Teller>(rt: &R, place: &Place<R>, n: u64) -> Result<(), Fa
     Ok(())
 }
 
-fn tell_boxes<R: Teller>(rt: &R, place: &Place<R>, keeper: &Keeper) -> Result<(), Fault> {
-    for index in 0..keeper.accounts.len() {
-        if let Some(account) = keeper.accounts.at(index) {
+fn tell_boxes<R: Teller>(rt: &R, place: &Place<R>, operator: &OperatorFiles) -> Result<(), Fault> {
+    for index in 0..operator.accounts.len() {
+        if let Some(account) = operator.accounts.at(index) {
             tell_box(rt, place, &account.name)?;
         }
     }

@@ -1,4 +1,4 @@
--- What holds of a keeper's files: each is the contract of a function in `laws`.
+-- What holds of an operator's files: each is the contract of a function in `laws`.
 use Rattle.std.specs.Prelude.{◌≡◌, ℕ, List, Ok}
 use Rattle.std.specs.Str.Lines.{lines}
 use Rattle.mon_access.specs.declared.account.Account.{Account}

@@ -1,4 +1,4 @@
--- A keeper's file, line by line (own).
+-- An operator's file, line by line (own).
 use Rattle.std.specs.Prelude.{ℕ, ◌+◌, ◌==◌, Bool, false, ◌||◌, List, [], ◌∷◌, Result, Ok, Err}
 use Rattle.mon_text.specs.declared.stop.Stop.{Stop}
 use Rattle.mon_text.specs.declared.stop.Stop.TheVariants.{Refused, Memory}

@@ -1,4 +1,4 @@
-//! Names of files: which are claimed, of which round or text a file is, and how a name is told to the keeper.
+//! Names of files: which are claimed, of which round or text a file is, and how a name is told to the operator.
 ghost use Rattle.std.specs.Prelude.{◌≡◌};
 ghost use Rattle.site_plan.specs.Names.{is_claimed, is_round_ending, is_of_plan, is_of_run};
 

@@ -1,4 +1,4 @@
-//! Laws over a keeper's files: each function's contract is one, and its body is empty.
+//! Laws over an operator's files: each function's contract is one, and its body is empty.
 ghost use Rattle.site_plan.specs.Laws.{GivesAccounts, GivesSets};
 
 /// The accounts that are read of a table are those that its lines spell, no two of one name.

@@ -6,7 +6,7 @@ ghost use Rattle.site_plan.specs.Walks.{is_remark, is_skipped, stop_at};
 use mon_text::Stop;
 use std::alloc::AllocError;
 
-/// Whether a line of a keeper's file says nothing.
+/// Whether a line of an operator's file says nothing.
 pub fn is_skipped(line: &[u8]) -> bool
     ensures { result ≡ is_skipped line.now }
 {

@@ -71,7 +71,7 @@ fn read_statements(
 /// make, is found by a hash of this seed.
 ///
 /// A label begins in column 1 and runs to a blank. What follows it is the statement, by the grammar of the language: see
-/// `docs/LANGUAGE.md`. What follows END names the label where a run begins; where nothing does, a run begins at the first
+/// `docs/reference/language.md`. What follows END names the label where a run begins; where nothing does, a run begins at the first
 /// statement, or ends at once where there is none.
 ///
 /// # Errors

@@ -1,4 +1,4 @@
-//! What each error says of itself: the words of its code in docs/REFERENCE.md, without what a printout adds to them. `K2` and
+//! What each error says of itself: the words of its code in docs/reference/errors.md, without what a printout adds to them. `K2` and
 //! the fault of a device stand there in no table, since no deck brings them about. And the line that a run's fault has.
 use deck_run::{DeckError, Holder, RunError, Shortage, exit_status, put_fault, put_shortage};
 use mon_access::AccountError;

@@ -1,4 +1,4 @@
-//! What the keeper's files say: the accounts, the users and the limits.
+//! What the operator's files say: the accounts, the users and the limits.
 ghost use Rattle.std.specs.Prelude.{◌≡◌, Ok, IfOk};
 ghost use Rattle.site_plan.specs.Tables.{table_of};
 
@@ -11,9 +11,9 @@ use site_plan::{
 };
 use std::alloc::Global;
 
-/// What the keeper's files say, but for the users.
+/// What the operator's files say, but for the users.
 #[derive(Drop)]
-pub struct Keeper {
+pub struct OperatorFiles {
     /// The text of the account table.
     pub table: Vec<u8>,
     /// The accounts.
@@ -24,20 +24,20 @@ pub struct Keeper {
     ghost read: { table_of table.items ≡ Ok accounts },
 }
 
-/// The folder of a site, and what its keeper's files say.
-pub fn open_site<R: System>(rt: R, top: String) -> Result<(Place<R>, Keeper), Fault> {
+/// The folder of a site, and what its operator's files say.
+pub fn open_site<R: System>(rt: R, top: String) -> Result<(Place<R>, OperatorFiles), Fault> {
     let mut place = Place::new(rt, top);
-    let keeper = read_keeper(&place)?;
-    let users = users_of(&place, &keeper)?;
+    let operator = read_operator_files(&place)?;
+    let users = users_of(&place, &operator)?;
     place.set_users(users);
-    Ok((place, keeper))
+    Ok((place, operator))
 }
 
-fn read_keeper<R: System>(place: &Place<R>) -> Result<Keeper, Fault> {
+fn read_operator_files<R: System>(place: &Place<R>) -> Result<OperatorFiles, Fault> {
     let terms = terms_of(place)?;
     let table = file(place, b"accounts")?;
     let accounts = accounts_of(place, &table)?;
-    Ok(Keeper {
+    Ok(OperatorFiles {
         table,
         accounts,
         terms,
@@ -84,15 +84,15 @@ fn wrong_terms(line: u64, fault: TermsFault) -> Wrong {
     }
 }
 
-fn users_of<R: System>(place: &Place<R>, keeper: &Keeper) -> Result<Vec<User>, Fault> {
+fn users_of<R: System>(place: &Place<R>, operator: &OperatorFiles) -> Result<Vec<User>, Fault> {
     let text = file(place, b"users")?;
     let path = place.path(b"users")?;
-    let demonstration = keeper.terms.demonstration;
+    let demonstration = operator.terms.demonstration;
     users_in(
         place.rt.alloc(),
         &path,
         demonstration,
-        &keeper.accounts,
+        &operator.accounts,
         &text,
     )
 }
