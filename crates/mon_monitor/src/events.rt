@@ -169,12 +169,7 @@ impl Monitor {
     // Appends the printout of a command that lists records, to be shown from where they stand. It stays a call, since the room for a
     // piece is cleared where this stands, and most lists are short.
     #[inline(never)]
-    fn put_shared(
-        &self,
-        account: &Name,
-        name: &Name,
-        out: &mut Printed,
-    ) -> Result<(), AllocError>
+    fn put_shared(&self, account: &Name, name: &Name, out: &mut Printed) -> Result<(), AllocError>
         ensures printed { OnOk result (out.new ≡ out.old ++ listing account.now name.now (system_of self.now).scheduler.sets) }
         ensures nothing { OnErr result (out.new ≡ out.old) }
     {
