@@ -71,11 +71,19 @@ def site() -> str:
                                                     stdout=subprocess.PIPE).stdout.decode().strip()
 
 
+def lacks_parts(text: str) -> bool:
+    """Whether a page speaks of snomon-parts, and that program is not there."""
+    proved = [os.path.join(TOP, 'tools', 'proved'), '--path', 'snomon_parts']
+    return 'snomon-parts' in text and not os.environ.get('SNOMON_PARTS') and subprocess.run(
+        proved, stdout=subprocess.DEVNULL, stderr=subprocess.DEVNULL).returncode != 0
+
+
 def linked(programs: str, program: str, text: str) -> str:
     """A folder for the path of commands that has the programs of this repository."""
     os.mkdir(programs)
     for name, path in (('snomon', program), ('snomon-deck', os.path.join(TOP, 'bin', 'snomon-deck')),
-                       ('snomon-listing', os.environ.get('LISTING') or os.path.join(TOP, 'bin', 'snomon-listing'))):
+                       ('snomon-listing', os.environ.get('LISTING') or os.path.join(TOP, 'bin', 'snomon-listing')),
+                       ('snomon-parts', os.environ.get('SNOMON_PARTS') or os.path.join(TOP, 'bin', 'snomon-parts'))):
         os.symlink(os.path.abspath(path), os.path.join(programs, name))
     if 'snomon-site' in text:
         shutil.copy(site(), os.path.join(programs, 'snomon-site'))
@@ -115,6 +123,9 @@ def main(program: str, pages: List[str]) -> int:
             text = file.read()
         if is_for_root(text) and not has_places():
             print(f'left out {page}: root alone can follow it')
+            continue
+        if lacks_parts(text):
+            print(f'left out {page}: there is no snomon-parts')
             continue
         for fault in followed(program, text):
             failed = 1

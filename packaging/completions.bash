@@ -1,4 +1,4 @@
-# Completion of snomon, snomon-listing, snomon-site and snomon-deck for bash: what their help names, and files.
+# Completion of snomon, snomon-listing, snomon-site, snomon-parts and snomon-deck for bash: what their help names, and files.
 
 # _snomon_words COMMAND..: the options and the commands that its help names.
 _snomon_words() {
@@ -15,4 +15,4 @@ _snomon() {
         mapfile -t COMPREPLY < <(compgen -W "$(_snomon_words "${command[@]}")" -- "$word")
     fi
 }
-complete -o default -F _snomon snomon snomon-listing snomon-site snomon-deck
+complete -o default -F _snomon snomon snomon-listing snomon-site snomon-parts snomon-deck

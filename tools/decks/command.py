@@ -201,7 +201,8 @@ def _add_split(kind: Kind) -> None:
     made = kind('split', _split, 'cut a deck into decks that share no data set',
                 'DIR gets 1.deck, 2.deck and so on, and a file for join. Run each of them, with as many slots as here, into '
                 '1.out, 2.out and so on, in any order or at once; then join. The decks are named on standard output. What is '
-                'to be known of how it was cut is said on standard error, with the lines of the cards.')
+                'to be known of how it was cut is said on standard error, with the lines of the cards. If each submission in it ends with '
+                'a $DRAIN card, snomon-parts does it, where that is installed.')
     made.add_argument('deck', metavar='DECK', help='a deck that snomon --check finds good')
     made.add_argument('folder', metavar='DIR', help='a folder for them: it is made if need be, and may have other files, but none '
                                                        'of another split')

@@ -11,6 +11,7 @@ import heapq
 import os
 from typing import BinaryIO, Dict, Iterator, List, Optional, Set
 
+from . import parting
 from .catalogue import Found, heading
 from .files import opened
 from .output import Output
@@ -155,6 +156,9 @@ class Joining:
 
 def join_outputs(folder: str, joined: BinaryIO) -> None:
     """One output of those of the decks in a folder that `snomon-deck split` filled."""
+    if parting.was_split(folder):
+        parting.join(folder, False, joined)
+        return
     path = os.path.join(folder, CARDS_FILE)
     with contextlib.ExitStack() as stack:
         events = read_events(Lines(path, stack.enter_context(opened(path))))

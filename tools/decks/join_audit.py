@@ -10,6 +10,7 @@ import contextlib
 import os
 from typing import BinaryIO, Dict, Iterator, List, Optional
 
+from . import parting
 from .audit import Event, cells_of
 from .files import opened
 from .parts import CARDS_FILE, Event as Card, audit_of, read_events
@@ -150,6 +151,9 @@ class JoiningAudits:
 
 def join_audits(folder: str, joined: BinaryIO) -> None:
     """One audit of those of the decks in a folder that `snomon-deck split` filled."""
+    if parting.was_split(folder):
+        parting.join(folder, True, joined)
+        return
     path = os.path.join(folder, CARDS_FILE)
     with contextlib.ExitStack() as stack:
         cards = read_events(Lines(path, stack.enter_context(opened(path))))

@@ -1,4 +1,5 @@
-"""A deck cut into several that share no data set.
+"""A deck cut into several that share no data set. Where each submission in it ends with a `$DRAIN` card, and `snomon-parts` is there,
+that does it (parting.py), and this is about all other decks.
 
 What the decks' outputs, put together by `join`, keep of what the whole deck prints, run with as many slots:
 
@@ -28,6 +29,7 @@ import re
 from dataclasses import dataclass, field
 from typing import BinaryIO, Dict, Iterator, List, Optional, Sequence, Set, Tuple, Union
 
+from . import parting
 from .cards import Account, Command, Drain, Heading, Item, Job, Stop, StreamItem, Turn, read_deck
 from .catalogue import SETS_LIMIT, DataSet
 from .files import blaming, filled, made, opened_twice
@@ -251,6 +253,10 @@ def _placed(stretch: Stretch, groups: Groups, part_of: Dict[Node, int],
 
 def split_deck(path: str, folder: str, most: int, slots: int, tells_ties: bool = False) -> Tuple[List[str], List[str]]:
     """Fills the folder with the decks, and with the file that `join` needs: the decks' paths, and what there is to tell."""
+    return parting.split_deck(path, folder, most, tells_ties) or _split_deck(path, folder, most, slots, tells_ties)
+
+
+def _split_deck(path: str, folder: str, most: int, slots: int, tells_ties: bool) -> Tuple[List[str], List[str]]:
     _refuse_older_decks(folder)
     with opened_twice(path) as file:
         deck = survey(Lines(path, file))

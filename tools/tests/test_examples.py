@@ -13,7 +13,7 @@ class Pages(Trying):
     def test_man_pages_are_set_without_a_warning(self) -> None:
         if not shutil.which('groff'):
             self.skipTest('there is no groff')
-        for page in ('snomon.1', 'snomon-listing.1', 'snomon-deck.1', 'snomon-audit.5', 'snomon-deck.5'):
+        for page in ('snomon.1', 'snomon-listing.1', 'snomon-parts.1', 'snomon-deck.1', 'snomon-audit.5', 'snomon-deck.5'):
             done = run(['groff', '-mdoc', '-Tascii', '-ww', os.path.join(TOP, 'docs', 'man', page)])
             self.assertEqual((done.status, done.err), (0, ''))
             self.assertIn(b'DESCRIPTION', re.sub(b'.\x08', b'', done.out))

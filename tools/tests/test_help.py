@@ -1,14 +1,21 @@
-"""Help and version of listing and site go to standard output with status 0; words that ask nothing keep standard error and status 2."""
+"""Help and version of listing, site and snomon-parts go to standard output with status 0; words that ask nothing keep standard error and
+status 2."""
 from __future__ import annotations
 
 import os
 import unittest
-from trying import NO_WORDS, TOP, Trying, run
+from trying import NO_WORDS, PARTS, Trying, proved, run
 import sites
 
-LISTING = os.environ.get('LISTING') or run([os.path.join(TOP, 'tools', 'proved'), '--path', 'listing']).out.decode().strip()
-PROGRAMS = {'listing': LISTING, 'site': sites.SITE}
-COMMANDS = ('init', 'run', 'status', 'check', 'verify')
+LISTING = os.environ.get('LISTING') or proved('listing')
+PROGRAMS = {'listing': LISTING, 'site': sites.SITE, **({'parts': PARTS} if os.path.exists(PARTS) else {})}
+COMMANDS = {'site': ('init', 'run', 'status', 'check', 'verify'), 'parts': ('split', 'join')}
+NOTHING = {
+    'site': (NO_WORDS, ['--bogus', '--help'], ['run']),
+    'listing': (['--bogus'], ['a', 'b'], ['--access', '--account', '9X'], ['--text'], ['--account', 'lisa'], ['--text', '--account', '9X'],
+                ['--text', '--access', '--account', 'lisa'], ['--text', '--account', 'lisa', '--csv'], ['--set', 'A']),
+    'parts': (NO_WORDS, ['--bogus', '--help'], ['split'], ['join', 'a', 'b']),
+}
 
 
 @unittest.skipUnless(all(map(os.path.exists, PROGRAMS.values())), 'there is no listing, or no site')
@@ -24,13 +31,14 @@ class Help(Trying):
             self.assertIn('\nUsage: %s ' % os.path.basename(program), said)
             self.assertIn('\nExit status: 0 where ', said)
             self.assertEqual(self.says(name, '-h'), said)
-        self.assertEqual(self.says('site', 'help'), self.says('site', '--help'))
+            if name in COMMANDS:
+                self.assertEqual(self.says(name, 'help'), said)
 
     def test_the_help_of_a_command_goes_there_too(self) -> None:
-        for command in COMMANDS:
-            said = self.says('site', command, '--help')
-            self.assertIn('\nUsage: %s %s ' % (os.path.basename(PROGRAMS['site']), command), said)
-            self.assertEqual((self.says('site', command, '-h'), self.says('site', 'help', command)), (said, said))
+        for name, command in ((name, command) for name in COMMANDS if name in PROGRAMS for command in COMMANDS[name]):
+            said = self.says(name, command, '--help')
+            self.assertIn('\nUsage: %s %s ' % (os.path.basename(PROGRAMS[name]), command), said)
+            self.assertEqual((self.says(name, command, '-h'), self.says(name, 'help', command)), (said, said))
 
     def test_the_version_goes_there_too(self) -> None:
         for name in PROGRAMS:
@@ -43,10 +51,7 @@ class Help(Trying):
                 self.assertEqual(run(['/bin/sh', '-c', '"$0" "$1" </dev/zero', program, word]).out.decode(), self.says(name, word))
 
     def test_words_that_ask_nothing_are_told_on_standard_error(self) -> None:
-        for name, words in (('site', NO_WORDS), ('site', ['--bogus', '--help']), ('site', ['run']), ('listing', ['--bogus']), ('listing', ['a', 'b']),
-                            ('listing', ['--access', '--account', '9X']), ('listing', ['--text']), ('listing', ['--account', 'lisa']),
-                            ('listing', ['--text', '--account', '9X']), ('listing', ['--text', '--access', '--account', 'lisa']),
-                            ('listing', ['--text', '--account', 'lisa', '--csv']), ('listing', ['--set', 'A'])):
+        for name, words in ((name, words) for name in PROGRAMS for words in NOTHING[name]):
             done = run([PROGRAMS[name], *words], cwd=self.room)
             self.assertEqual((done.status, done.out, bool(done.err)), (2, b'', True), words)
 

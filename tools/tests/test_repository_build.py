@@ -130,7 +130,8 @@ class Built(Checkout):
         path = one.encode()
         for words, wanted in ((('listing', one), b'\nfirst\n'), (('listing', '--access', '--set', one), b'--access --set %s\n' % path),
                               (('listing', '--account', one, one), b'--account %s\nfirst\n' % path), (('listing', '--slots', one), b'--slots\nfirst\n'),
-                              (('site', 'check', one), b'check %s\n' % path), (('site', one), path + b'\n')):
+                              (('site', 'check', one), b'check %s\n' % path), (('site', one), path + b'\n'),
+                              (('snomon_parts', 'split', one), b'split %s\n' % path)):
             self.assertEqual(self.proved(*words).out, wanted, words)
 
     # What is not right
@@ -195,7 +196,7 @@ class Built(Checkout):
         for words in ((), ('other',), ('--sum', 'other', 'kit 1'), ('../snomon',)):
             done = self.proved(*words)
             self.assertEqual((done.status, done.out, self.builds()), (2, b'', 0))
-            self.assertIn('the programs are snomon, listing and site', done.err)
+            self.assertIn('the programs are snomon, listing, site and snomon_parts', done.err)
 
     def test_a_checkout_that_cannot_be_written_says_so(self) -> None:
         self.write('out', b'')
@@ -240,8 +241,8 @@ class Built(Checkout):
     def test_a_release_is_made_of_the_programs_of_a_passed_gate(self) -> None:
         self.assertIn('no gate has passed', self.released_by().err)
         self.stamp('snomon', OF_THE_GATE)
-        self.stamp('listing', BY_HAND)
-        self.stamp('site', BY_HAND)
+        for name in PROGRAMS[1:]:
+            self.stamp(name, BY_HAND)
         self.assertEqual(self.released_by('--passed').status, 0)
         self.assertEqual(self.released_by('--check').status, 1)
         self.assertEqual(self.released_by().status, 0)
@@ -249,7 +250,7 @@ class Built(Checkout):
         os.remove(self.path(PROGRAM))
         self.assertEqual(self.ran('a', with_rt=False).out, b'of the gate a\n')
         done = run(['sha256sum', '--check', 'SHA256SUMS'], cwd=self.path('release'))
-        self.assertEqual((done.status, done.out), (0, b'snomon: OK\nlisting: OK\nsite: OK\n'))
+        self.assertEqual((done.status, done.out), (0, b''.join(b'%s: OK\n' % name.encode() for name in PROGRAMS)))
         self.write('crates/mon_low/specs/Low.antt', b'two\n')
         self.assertEqual(self.released_by('--check').status, 1)
         self.assertIn('other sources', self.released_by().err)
@@ -260,14 +261,13 @@ class Built(Checkout):
         self.released_by('--passed')
         self.released_by()
         self.assertEqual(self.released_by('--compare').out,
-                         b''.join(b'ok release/%s is what was built\n' % name.encode() for name in PROGRAMS) + b'3 passed, 0 failed\n')
+                         b''.join(b'ok release/%s is what was built\n' % name.encode() for name in PROGRAMS) + b'4 passed, 0 failed\n')
         self.stamp('snomon', BY_HAND)
         done = self.released_by('--compare')
-        self.assertEqual((done.status, done.out.splitlines()[-1]), (1, b'2 passed, 1 failed'))
+        self.assertEqual((done.status, done.out.splitlines()[-1]), (1, b'3 passed, 1 failed'))
         self.write('crates/mon_low/specs/Low.antt', b'two\n')
-        self.stamp('snomon', BY_HAND)
-        self.stamp('listing', BY_HAND)
-        self.stamp('site', BY_HAND)
+        for name in PROGRAMS:
+            self.stamp(name, BY_HAND)
         done = self.released_by('--compare')
         self.assertEqual((done.status, done.out.splitlines()[-1]), (0, b'0 passed, 0 failed'))
         self.assertIn(b'moved on', done.out)

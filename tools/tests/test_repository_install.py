@@ -8,7 +8,7 @@ from checkout import BY_HAND, OF_THE_GATE, RELEASED, Checkout
 from trying import BOTH, Done, PRINTOUTS, TOP, run
 
 FORMER = ['deck', 'listing', 'site']
-PROGRAMS = ['snomon-' + name for name in FORMER]
+PROGRAMS = ['snomon-' + name for name in [*FORMER, 'parts']]
 PAGES = sorted(os.listdir(os.path.join(TOP, 'docs', 'man')))
 
 

@@ -9,7 +9,7 @@ import tarfile
 import unittest
 from typing import Dict, List
 from checkout import PROGRAMS, Checkout
-from trying import Done, NO_WORDS, TOP, Trying, deck, run
+from trying import Done, NO_WORDS, TOP, Trying, deck, proved, run
 from decks.cards import CARDS
 from decks.version import VERSION
 
@@ -57,7 +57,7 @@ class Versions(unittest.TestCase):
             if origin.status:
                 self.skipTest(f'there is no {program}')
             printed = run([run([script, '--path', program]).out.decode().strip(), '--version'])
-            self.assertRegex(printed.out.decode() + printed.err, rf'^snomon(-{program})? {re.escape(VERSION)}\n$')
+            self.assertRegex(printed.out.decode() + printed.err, rf'^snomon(-{program.replace("snomon_", "")})? {re.escape(VERSION)}\n$')
             if b'\norigin     released\n' in origin.out:
                 self.assertIn(f'\ncommit     {commit}\n', origin.out.decode())
 
@@ -112,6 +112,11 @@ class Completed(Trying):
         self.assertLessEqual({'init', 'run', 'status', 'verify'}, set(self.completed('snomon-site', '')))
         self.assertIn('--access', self.completed('snomon-listing', '--acc'))
 
+    @unittest.skipUnless(proved('snomon_parts'), 'there is no snomon-parts')
+    def test_snomon_parts_names_its(self) -> None:
+        self.assertLessEqual({'split', 'join'}, set(self.completed('snomon-parts', '')))
+        self.assertEqual(self.completed('snomon-parts', 'split', '--sev'), ['--several'])
+
 
 @unittest.skipUnless(shutil.which('git'), 'there is no git')
 class Packaged(Checkout):
@@ -147,7 +152,7 @@ class Packaged(Checkout):
         control = run(['dpkg-deb', '-f', path]).out.decode()
         self.assertIn(f'Version: {VERSION}\n', control)
         self.assertIn('Built from commit 1234.', control)
-        self.assertEqual(sorted(os.listdir(self.path('root/usr/bin'))), ['snomon', 'snomon-deck', 'snomon-listing', 'snomon-site'])
+        self.assertEqual(sorted(os.listdir(self.path('root/usr/bin'))), ['snomon', 'snomon-deck', 'snomon-listing', 'snomon-parts', 'snomon-site'])
         self.assertEqual(run([self.path('root/usr/bin/snomon-deck'), '--version']).out.decode(), f'snomon-deck {VERSION}\n')
         self.assertEqual(sorted(os.listdir(self.path('root/usr/share/doc/snomon'))), ['SECURITY.md', 'changelog.Debian.gz', 'changelog.gz', 'copyright'])
         self.assertIn(b'ExecStart=/usr/bin/snomon-site', self.read('root/usr/lib/systemd/system/snomon-site.service'))

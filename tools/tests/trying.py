@@ -15,6 +15,15 @@ DECK = os.path.join(TOP, 'tools', 'deck')
 sys.path[:0] = [TOOLS]
 from decks import command  # noqa: E402
 
+
+def proved(name: str) -> str:
+    """The path of that program of this repository; nothing where it isn't there."""
+    script = os.path.join(TOP, 'tools', 'proved')
+    return subprocess.run([script, '--path', name], capture_output=True).stdout.decode().strip() if os.path.exists(script) else ''
+
+
+PARTS = os.environ.get('SNOMON_PARTS') or proved('snomon_parts')
+os.environ['SNOMON_PARTS'] = ''  # what snomon-deck does by itself is tried, but where a test names the program
 SNOMON = os.path.abspath(os.environ.get('SNOMON', os.path.join(TOP, 'run')))
 MEASURED = ('import resource, subprocess, sys; status = subprocess.call(sys.argv[1:]); '
             'print(resource.getrusage(resource.RUSAGE_CHILDREN).ru_maxrss, status)')

@@ -1,17 +1,19 @@
 -- A deck, taken apart piece by piece.
-use Rattle.std.proofs.Common.{◌≡◌, ℕ, List, [], ◌++◌, take, drop, sym, ap, ◌∙◌, subst}
-use Rattle.std.{specs.Prelude.{codes}, proofs.lemmas.List.{take-append-drop}}
+use Rattle.std.proofs.Common.{◌≡◌, ℕ, List, [], ◌++◌, sym, ap, ◌∙◌, subst}
+use Rattle.std.specs.Prelude.{codes}
 use Rattle.preflight.specs.declared.submission.Submission.{Submission}
 use Rattle.deck_parts.specs.declared.deck.{SetText.{SetText}, Whole.{Whole}}
-use Rattle.deck_parts.specs.Wholes.{IsEnded, sets_text, texts_text, IsSettled, IsStream, IsTakenApart}
+use Rattle.deck_parts.specs.Wholes.{AtLineEnd, IsBefore, IsEnded, sets_text, texts_text, IsSettled, IsStream, IsTakenApart}
 
--- up to this place
-pub settles : (stream : List ℕ) (end : ℕ) (text ended : List ℕ) → text ≡ take end stream → IsEnded text ended → IsSettled stream ended
-settles stream end text ended is ends = record {
-  before = take end stream;
-  rest = drop end stream;
-  stream_is = sym (take-append-drop end stream);
-  settled_is = subst (λ (l : List ℕ). IsEnded l ended) is ends;
+pub settles : (stream before ended : List ℕ) → IsBefore stream before → IsEnded before ended → IsSettled stream ended
+settles stream before ended is ends = record { before = before; stream_is = is; settled_is = ends }
+
+-- at this place
+pub stands_before : (stream before rest behind : List ℕ) → before ++ rest ≡ stream → rest ≡ codes "$STOP" ++ behind → AtLineEnd behind → IsBefore stream before
+stands_before stream before rest behind parts is stops = record {
+  behind = behind;
+  stream_is = sym parts ∙ ap (λ (l : List ℕ). before ++ l) is;
+  stops = stops;
 }
 
 pub settled_texts : (cards settled : List ℕ) (texts : List Submission) → IsSettled cards settled → texts_text texts ≡ settled → IsSettled cards (texts_text texts)

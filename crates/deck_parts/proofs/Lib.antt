@@ -1,2 +1,4 @@
 pub mod InParts
 pub mod Apart
+pub mod Dues
+pub mod Owners

@@ -1,2 +1,4 @@
 pub mod Wholes
 pub mod PartDecks
+pub mod Numbers
+pub mod Owning

@@ -1,5 +1,5 @@
 -- A deck, taken apart (own): accounts, data sets, and texts with a `$DRAIN` card behind each.
-use Rattle.std.specs.Prelude.{◌≡◌, ◌⊎◌, ℕ, List, ◌++◌, codes}
+use Rattle.std.specs.Prelude.{◌≡◌, ◌⊎◌, ℕ, List, [], ◌∷◌, ◌++◌, codes}
 use Rattle.std.specs.List.{flat_map}
 use Rattle.preflight.specs.declared.submission.Submission.{Submission}
 use Rattle.deck_parts.specs.declared.deck.SetText.{SetText}
@@ -21,11 +21,21 @@ texts_text texts = flat_map fenced texts
 abbrev pub IsEnded : List ℕ → List ℕ → Type 0
 IsEnded text ended = (ended ≡ text) ⊎ (ended ≡ text ++ fence)
 
--- What stands in a stream before `$STOP`, with a fence at its end.
+-- a line ends here, or the deck does
+abbrev pub AtLineEnd : List ℕ → Type 0
+AtLineEnd [] = Unit {0}
+AtLineEnd (byte ∷ rest) = byte ≡ 10
+
+-- in a stream the card `$STOP` stands right behind this
+pub record IsBefore (stream before : List ℕ) : Type 0 where
+  pub behind : List ℕ
+  pub stream_is : stream ≡ before ++ (codes "$STOP" ++ behind)
+  pub stops : AtLineEnd behind
+
+-- What stands in a stream before the card `$STOP`, with a fence at its end.
 pub record IsSettled (stream settled : List ℕ) : Type 0 where
   pub before : List ℕ
-  pub rest : List ℕ
-  pub stream_is : stream ≡ before ++ rest
+  pub stream_is : IsBefore stream before
   pub settled_is : IsEnded before settled
 
 -- the texts of a stream, from its card on

@@ -36,22 +36,27 @@ pub fn take_audit(
     if rest.is_empty() {
         return Err(Stop::Refused(Misfit { line: number }));
     }
-    finish(alloc, &mut taking)?;
-    Ok(Part {
-        printed: taking.printed,
-        left: IndexMap::new(alloc),
-    })
+    if finish(alloc, &mut taking)? {
+        Ok(Part {
+            printed: taking.printed,
+            left: IndexMap::new(alloc),
+        })
+    } else {
+        Err(Stop::Refused(Misfit { line: number }))
+    }
 }
 
-// Each text has what was taken for it.
-fn finish(alloc: Global, taking: &mut Taking) -> Result<(), AllocError> {
+// Each text has what was taken for it: whether that is all.
+fn finish(alloc: Global, taking: &mut Taking) -> Result<bool, AllocError> {
     for _ in 0..taking.dues.len() {
-        match taking.due() {
-            Some(due) => taking.step(alloc, due.number)?,
-            None => break,
+        let Some(due) = taking.due() else {
+            break;
+        };
+        if !go_on(alloc, taking, due)? {
+            return Ok(false);
         }
     }
-    Ok(())
+    Ok(true)
 }
 
 // Takes a line of an audit: whether it is of a text of the part.
@@ -68,10 +73,15 @@ fn take_line(alloc: Global, taking: &mut Taking, line: &[u8]) -> Result<bool, Al
 fn take_job(alloc: Global, taking: &mut Taking, job: u64, rest: &[u8]) -> Result<bool, AllocError> {
     for _ in 0..taking.dues.len() {
         match taking.due() {
-            Some(due) if due.last_job() < job => go_on(alloc, taking, due)?,
+            Some(due) if due.last_job() < job => {
+                if !go_on(alloc, taking, due)? {
+                    return Ok(false);
+                }
+            }
             _ => break,
         }
     }
+    taking.last = taking.last.max(job);
     match taking.due() {
         Some(due) => put_job(&mut taking.current, due, rest),
         None => Ok(false),
@@ -85,7 +95,11 @@ fn take_command(alloc: Global, taking: &mut Taking, line: &[u8]) -> Result<bool,
     }
     for _ in 0..taking.dues.len() {
         match taking.due() {
-            Some(due) if due.commands <= taking.taken => go_on(alloc, taking, due)?,
+            Some(due) if due.commands <= taking.taken => {
+                if !go_on(alloc, taking, due)? {
+                    return Ok(false);
+                }
+            }
             _ => break,
         }
     }
@@ -94,7 +108,10 @@ fn take_command(alloc: Global, taking: &mut Taking, line: &[u8]) -> Result<bool,
     Ok(taking.due().is_some())
 }
 
-fn go_on(alloc: Global, taking: &mut Taking, due: Due) -> Result<(), AllocError> {
+// The next text is at hand: whether all commands and jobs of the one before were told of.
+fn go_on(alloc: Global, taking: &mut Taking, due: Due) -> Result<bool, AllocError> {
+    let whole = taking.taken >= due.commands && taking.last >= due.last_job();
     taking.taken = 0;
-    taking.step(alloc, due.number)
+    taking.step(alloc, due.number)?;
+    Ok(whole)
 }

@@ -1,4 +1,8 @@
 //! The cards of texts: how many printouts they give, and which data sets there are behind them.
+ghost use Rattle.std.specs.Prelude.{◌≡◌, nat_eq, OnOk};
+ghost use Rattle.std.specs.Cmp.Lexicographic.{pointwise};
+ghost use Rattle.indexmap.specs.IndexMap.{insert_entry};
+ghost use Rattle.deck_parts.specs.Owning.{created, deleted, is_owner, may_be_created, owner_of};
 
 use deck_lines::Command;
 use deck_reader::{Event, StreamReader};
@@ -99,21 +103,39 @@ impl<'a> Owners<'a> {
         }
     }
 
-    fn create(&mut self, account: &Name, name: &Name) -> Result<(), AllocError> {
-        if self.owners.get(name).is_some() || self.owners.len() >= MOST_SETS {
-            return Ok(());
+    #[tactic(auto, using(crate::proofs::Owners::one_more, crate::proofs::Owners::no_more))]
+    fn create(&mut self, account: &Name, name: &Name) -> Result<(), AllocError>
+        ensures { OnOk result (self.new.owners.entries ≡ created account.now name.now self.old.owners.entries) }
+    {
+        if self.may_create(name) {
+            put_owner(&mut self.owners, name, account)
+        } else {
+            Ok(())
         }
-        put_owner(&mut self.owners, name, account)
     }
 
-    fn delete(&mut self, account: &Name, name: &Name) {
+    fn may_create(&self, name: &Name) -> bool
+        ensures { result ≡ may_be_created name.now self.now.owners.entries }
+    {
+        match self.owners.get(name) {
+            Some(_) => false,
+            None => self.owners.len() < MOST_SETS,
+        }
+    }
+
+    #[tactic(auto, using(crate::proofs::Owners::gone, crate::proofs::Owners::stays))]
+    fn delete(&mut self, account: &Name, name: &Name)
+        ensures { self.new.owners.entries ≡ deleted account.now name.now self.old.owners.entries }
+    {
         if self.is_of(account, name) {
             let removed = self.owners.shift_remove(name);
             drop(removed);
         }
     }
 
-    fn is_of(&self, account: &Name, name: &Name) -> bool {
+    fn is_of(&self, account: &Name, name: &Name) -> bool
+        ensures { result ≡ is_owner account.now (owner_of name.now self.now.owners.entries) }
+    {
         match self.owners.get(name) {
             Some(owner) => owner == account,
             None => false,
@@ -121,11 +143,9 @@ impl<'a> Owners<'a> {
     }
 }
 
-fn put_owner(
-    owners: &mut IndexMap<Name, Name>,
-    name: &Name,
-    owner: &Name,
-) -> Result<(), AllocError> {
+fn put_owner(owners: &mut IndexMap<Name, Name>, name: &Name, owner: &Name) -> Result<(), AllocError>
+    ensures { OnOk result (owners.new.entries ≡ insert_entry (pointwise nat_eq) owners.old.entries name.now owner.now) }
+{
     let before = owners.insert(name.copy(), owner.copy())?;
     drop(before);
     Ok(())

@@ -1,4 +1,8 @@
 //! What a part wrote, cut into the printouts of its texts and its data sets.
+ghost use Rattle.std.specs.Prelude.{◌≡◌, ◌++◌, suc, ◌∷◌, List, IfOk, OnOk};
+ghost use Rattle.deck_parts.specs.declared.record.TextNote.{TextNote as Note};
+ghost use Rattle.deck_parts.specs.Numbers.{dues_of, job_line, number_in};
+
 use crate::pieces::first_piece;
 use crate::record::{Record, TextNote};
 use crate::whole::first_set;
@@ -29,21 +33,53 @@ pub(crate) struct Due {
 }
 
 /// The texts of a part.
-pub(crate) fn dues(alloc: Global, record: &Record, part: u64) -> Result<Vec<Due>, AllocError> {
-    let mut dues = Vec::new(alloc);
-    let mut before: u64 = 0;
-    let mut ahead: u64 = 0;
-    for (place, text) in record.texts.iter().enumerate() {
-        if text.part == part {
-            dues.push(due_of(place as u64, *text, before, ahead))?;
-            ahead = ahead.saturating_add(text.jobs);
-        }
-        before = before.saturating_add(text.jobs);
-    }
-    Ok(dues)
+pub(crate) fn dues(alloc: Global, kept: &Record, part: u64) -> Result<Vec<Due>, AllocError>
+    ensures { IfOk result (λ dues. dues.items ≡ dues_of part 0 0 0 kept.now.texts.items) }
+{
+    dues_in(alloc, &kept.texts, part)
 }
 
-fn due_of(number: u64, text: TextNote, before: u64, ahead: u64) -> Due {
+#[tactic(auto, using(crate::proofs::Dues::one_due, crate::proofs::Dues::all_due))]
+fn dues_in(alloc: Global, texts: &[TextNote], part: u64) -> Result<Vec<Due>, AllocError>
+    ensures { IfOk result (λ dues. dues.items ≡ dues_of part 0 0 0 texts.now) }
+{
+    let mut found = Found {
+        dues: Vec::new(alloc),
+        before: 0,
+        ahead: 0,
+    };
+    for (place, text) in texts.iter().enumerate() {
+        found.add(part, place as u64, *text)?;
+    }
+    Ok(found.dues)
+}
+
+/// The texts of a part among those so far, and how many jobs all of those have, and the part's.
+#[derive(Drop)]
+struct Found {
+    dues: Vec<Due>,
+    before: u64,
+    ahead: u64,
+}
+
+impl Found {
+    fn add(&mut self, part: u64, place: u64, text: TextNote) -> Result<(), AllocError>
+        ensures { (rest : List Note) → OnOk result (self.new.dues.items ++ dues_of part (suc place) self.new.before self.new.ahead rest
+            ≡ self.old.dues.items ++ dues_of part place self.old.before self.old.ahead (text ∷ rest)) }
+    {
+        if text.part == part {
+            self.dues
+                .push(due_of(place, text, self.before, self.ahead))?;
+            self.ahead = self.ahead.saturating_add(text.jobs);
+        }
+        self.before = self.before.saturating_add(text.jobs);
+        Ok(())
+    }
+}
+
+fn due_of(number: u64, text: TextNote, before: u64, ahead: u64) -> Due
+    ensures { result ≡ record { number = number; commands = text.commands; jobs = text.jobs; before = before; ahead = ahead } }
+{
     Due {
         number,
         commands: text.commands,
@@ -55,7 +91,9 @@ fn due_of(number: u64, text: TextNote, before: u64, ahead: u64) -> Due {
 
 impl Due {
     /// The number in the whole of the job that has this one in the part.
-    pub(crate) fn number_of(&self, job: u64) -> u64 {
+    pub(crate) fn number_of(&self, job: u64) -> u64
+        ensures { result ≡ number_in self.now job }
+    {
         job.saturating_sub(self.ahead).saturating_add(self.before)
     }
 
@@ -76,6 +114,7 @@ pub(crate) struct Taking {
     pub(crate) dues: Vec<Due>,
     pub(crate) at: usize,
     pub(crate) taken: u64,
+    pub(crate) last: u64,
     pub(crate) current: Vec<u8>,
     pub(crate) printed: IndexMap<u64, Vec<u8>>,
 }
@@ -86,6 +125,7 @@ impl Taking {
             dues,
             at: 0,
             taken: 0,
+            last: 0,
             current: Vec::new(alloc),
             printed: IndexMap::new(alloc),
         }
@@ -152,13 +192,19 @@ impl Taking {
 pub(crate) fn put_job(out: &mut Vec<u8>, due: Due, rest: &[u8]) -> Result<bool, AllocError> {
     match job_on(rest) {
         Some((job, behind)) if job > due.ahead && job <= due.last_job() => {
-            out.extend_from_slice(b"JOB ")?;
-            put_number(due.number_of(job), out)?;
-            out.extend_from_slice(behind)?;
+            put_line(out, due, job, behind)?;
             Ok(true)
         }
         _ => Ok(false),
     }
+}
+
+fn put_line(out: &mut Vec<u8>, due: Due, job: u64, behind: &[u8]) -> Result<(), AllocError>
+    ensures { OnOk result (out.new.items ≡ out.old.items ++ job_line due job behind.now) }
+{
+    out.extend_from_slice(b"JOB ")?;
+    put_number(due.number_of(job), out)?;
+    out.extend_from_slice(behind)
 }
 
 /// The number that a text begins with, and what is behind it.

@@ -1,5 +1,5 @@
 //! Bytes, cut behind lines.
-ghost use Rattle.std.specs.Prelude.{◌≡◌, ◌++◌, ◌<◌, ◌≤◌, length};
+ghost use Rattle.std.specs.Prelude.{◌≡◌, ◌++◌, ◌<◌, ◌≤◌, length, IfSome};
 
 use mon_text::first_line_end;
 
@@ -14,17 +14,23 @@ pub(crate) fn first_piece(text: &[u8]) -> (&[u8], &[u8])
     }
 }
 
-/// Where so many lines end; the end of the text, where it has no more.
-pub(crate) fn end_of_lines(text: &[u8], count: u64) -> usize
-    ensures { result ≤ length text.now }
+/// Where so many lines end; nothing, where there are not so many whole ones.
+pub(crate) fn end_of_lines(text: &[u8], count: u64) -> Option<usize>
+    ensures { IfSome result (λ end. end ≤ length text.now) }
 {
     let mut rest = text;
     for _ in 0..count {
-        if rest.is_empty() {
-            break;
-        }
-        let (_, behind) = first_piece(rest);
+        let Some(behind) = behind_line(rest) else {
+            return None;
+        };
         rest = behind;
     }
-    text.len().saturating_sub(rest.len())
+    Some(text.len().saturating_sub(rest.len()))
+}
+
+// What is behind the first line, where that has its line end.
+fn behind_line(text: &[u8]) -> Option<&[u8]> {
+    let end = first_line_end(text)?;
+    let (_, behind) = text.split_at(end + 1);
+    Some(behind)
 }

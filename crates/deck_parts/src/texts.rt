@@ -1,6 +1,6 @@
 //! The stream of a deck, cut into its texts.
-ghost use Rattle.std.specs.Prelude.{◌≡◌, ◌++◌, ◌<◌, ◌≤◌, length, codes, IfOk, IfSome, OnOk};
-ghost use Rattle.deck_parts.specs.Wholes.{texts_text, IsEnded, IsSettled};
+ghost use Rattle.std.specs.Prelude.{◌≡◌, ◌↔◌, ◌++◌, ◌<◌, ◌≤◌, true, length, codes, IfOk, IfSome, OnOk};
+ghost use Rattle.deck_parts.specs.Wholes.{texts_text, AtLineEnd, IsBefore, IsEnded, IsSettled};
 
 use crate::deck::Uncut;
 use crate::pieces::first_piece;
@@ -13,25 +13,47 @@ use std::alloc::{AllocError, Global};
 /// The card behind each text.
 pub(crate) const FENCE: &[u8] = b"$DRAIN\n";
 
-/// What stands in a stream before `$STOP`, with a fence at its end; nothing, where there is no `$STOP`.
+/// The card that ends a deck.
+const STOP: &[u8] = b"$STOP";
+
+/// What stands in a stream before the card `$STOP`, with a fence at its end; nothing, where that card isn't there.
+#[tactic(auto, using(crate::proofs::Apart::settles))]
 pub(crate) fn settled(alloc: Global, stream: &[u8]) -> Result<Option<Vec<u8>>, AllocError>
     ensures { IfOk result (λ found. IfSome found (λ settled. IsSettled stream.now settled.items)) }
 {
-    let end = place_of(stream, b"$STOP");
-    if end == stream.len() {
+    let Some(before) = before_stop(stream) else {
         return Ok(None);
-    }
-    let text = settled_at(alloc, stream, end)?;
+    };
+    let text = fenced(alloc, before)?;
     Ok(Some(text))
 }
 
-// What stands before this place, with a fence at its end.
-#[tactic(auto, using(crate::proofs::Apart::settles))]
-fn settled_at(alloc: Global, stream: &[u8], end: usize) -> Result<Vec<u8>, AllocError>
-    requires { end ≤ length stream.now }
-    ensures { IfOk result (λ settled. IsSettled stream.now settled.items) }
+// What stands before the first line that begins as the card `$STOP` does, where that line is the card and no more.
+#[tactic(auto, using(crate::proofs::Apart::stands_before))]
+fn before_stop(stream: &[u8]) -> Option<&[u8]>
+    ensures { IfSome result (λ before. IsBefore stream.now before.now) }
 {
-    let (before, _) = stream.split_at(end);
+    let (before, rest) = stream.split_at(place_of(stream, STOP));
+    match rest.strip_prefix(STOP) {
+        Some(behind) if is_at_line_end(behind) => Some(before),
+        _ => None,
+    }
+}
+
+// Whether a line ends here.
+fn is_at_line_end(rest: &[u8]) -> bool
+    ensures { result ≡ true ↔ AtLineEnd rest.now }
+{
+    match rest.first() {
+        Some(byte) => *byte == b'\n',
+        None => true,
+    }
+}
+
+// A text with a fence at its end.
+fn fenced(alloc: Global, before: &[u8]) -> Result<Vec<u8>, AllocError>
+    ensures { IfOk result (λ text. IsEnded before.now text.items) }
+{
     let mut text = Vec::from_slice(alloc, before)?;
     end_by_fence(&mut text)?;
     Ok(text)

@@ -111,7 +111,10 @@ pub(crate) fn first_set(alloc: Global, text: &[u8]) -> Result<Option<(SetText, &
     let Some((name, count)) = heading(line) else {
         return Ok(None);
     };
-    let (own, behind) = text.split_at(end_of_lines(text, count.saturating_add(2)));
+    let Some(end) = end_of_lines(text, count.saturating_add(2)) else {
+        return Ok(None);
+    };
+    let (own, behind) = text.split_at(end);
     if own.is_empty() {
         return Ok(None);
     }

@@ -25,7 +25,7 @@ use Rattle.deck_driver.specs.Feeds.{outcome, outcome_of, error_at, is_reading, c
 use Rattle.deck_driver.specs.Audits.{told_to, told_from, audit_for}
 use Rattle.deck_driver.proofs.{Verdicts.{verdict}, Following.{told_refused, too_long, list_too_long, long_refused, outcome_refused}}
 use Rattle.deck_driver.specs.declared.section.DeckState.TheVariants as state
-use Rattle.deck_run.{specs.Runs.{deck_ending, run_state_of, whole_lines, HasAnswered, HasPrinted, HasBrokenOff, HasBrokenOffAt}, proofs.Running.{Opens, Tells}}
+use Rattle.deck_run.{specs.Runs.{deck_ending, run_state_of, whole_lines, HasAnswered, HasPrinted, HasBrokenOff}, proofs.Running.{Opens, Tells}}
 use Rattle.deck_run.specs.inner.Writing.{Held, Runs, Stands, BrokeAt}
 
 -- ---- a deck that is refused prints the same wherever and for whatever that is
@@ -428,8 +428,8 @@ module _ (options : Options) (given_by left held now : Option (List ℕ)) (start
       let bytes = long_bytes 5001 in
       (given, runs.so_far.gives, answered bytes.0 bytes.2 (omega (arith, bytes.1)) options held now start f given a b begin tells runs.stands)
 
-  pub broken_off_at : (line : ℕ) → BrokeAt given_by left held now start given 1 line a b → HasBrokenOffAt options line given_by left held now a b
-  broken_off_at line at =
+  pub broken_off : (line : ℕ) → BrokeAt given_by left held now start given 1 line a b → HasBrokenOff options line given_by left held now a b
+  broken_off line at =
       let bytes = long_bytes 5001 in
       let x = at.run.broke in
       let long : 5000 < length bytes.0 = omega (arith, bytes.1) in
@@ -444,8 +444,3 @@ module _ (options : Options) (given_by left held now : Option (List ℕ)) (start
         not_stopped bytes.0 bytes.2 long options held now start x.feed x.front a x.mid begin tells x.stands x.reading,
         omega (arith, at.line_is, one.3),
       )
-
--- without the line
-pub broken_off : (options : Options) (given_by left held now : Option (List ℕ)) (a b : Standing) (line : ℕ) → HasBrokenOffAt options line given_by left held now a b
-    → HasBrokenOff options given_by left held now a b
-broken_off options given_by left held now a b line (given, front, back, gives, are, last, answered, open_end, is) = (given, front, back, gives, are, last, answered, open_end)

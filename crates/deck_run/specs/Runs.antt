@@ -76,15 +76,9 @@ HasPrinted options told left held now a b = (given : List ℕ) × Gives told giv
 abbrev pub HasAnsweredAtLeast : Options → Option (List ℕ) → Option (List ℕ) → List ℕ → Standing → Standing → Type 0
 HasAnsweredAtLeast options held now front a b = (mid : Standing) × HasAnswered options held now front a mid × (more : List ℕ) × Puts mid b more
 
--- What is due when memory runs out: it did so at a line of the last read, and the lines before that have been answered. The
--- deck had not come to its `$STOP`. The audit goes on with a beginning of what that line tells.
-abbrev pub HasBrokenOff : Options → Option (List ℕ) → Option (List ℕ) → Option (List ℕ) → Option (List ℕ) → Standing → Standing → Type 0
-HasBrokenOff options told left held now a b =
-    (given front back : List ℕ) × Gives told given left × (given ≡ front ++ back) × (length back ≤ READ_SIZE)
-    × HasAnsweredAtLeast options held now front a b × (deck_ending (whole_lines front) ≡ Stopped → ⊥)
-
--- And this is the line at which it ran out: the one behind those that were read whole.
-abbrev pub HasBrokenOffAt : Options → ℕ → Option (List ℕ) → Option (List ℕ) → Option (List ℕ) → Option (List ℕ) → Standing → Standing → Type 0
-HasBrokenOffAt options line told left held now a b =
+-- What is due when memory runs out at this line: it is of the last read, and the lines before it have been answered. The deck had not
+-- come to its `$STOP`. The audit goes on with a beginning of what that line tells.
+abbrev pub HasBrokenOff : Options → ℕ → Option (List ℕ) → Option (List ℕ) → Option (List ℕ) → Option (List ℕ) → Standing → Standing → Type 0
+HasBrokenOff options line told left held now a b =
     (given front back : List ℕ) × Gives told given left × (given ≡ front ++ back) × (length back ≤ READ_SIZE)
     × HasAnsweredAtLeast options held now front a b × (deck_ending (whole_lines front) ≡ Stopped → ⊥) × (line ≡ length (lines (whole_lines front)) + 1)

@@ -13,6 +13,6 @@ pub use mon_device::{
     DeckDevices, DeckReader, DeckWriter, Devices, Failed, MemReader, MemWriter, StdReader,
     StdWriter, Telling,
 };
-pub use run::{exit_status, put_fault, run_deck, run_deck_noting};
+pub use run::{exit_status, put_fault, run_deck};
 pub use shortage::{Shortage, put_shortage};
 pub use unaudited::NoAudit;

@@ -12,7 +12,7 @@ ghost use Rattle.deck_driver.specs.Abstraction.{outcome_from, audit_told};
 ghost use Rattle.deck_driver.specs.inner.Counting.{lines_ended};
 ghost use Rattle.deck_driver.specs.Printouts.{ReadsBack};
 ghost use Rattle.deck_run.specs.inner.Writing.{holds, HasGrown, Serves, Refuses, Starts, Begun, Runs, Stands, IsDue, BrokeOffAt, BrokeAt};
-ghost use Rattle.deck_run.specs.Runs.{deck_ending, counts_of, HoldsBeginning, HasWritten, HasRun, HasBegun, HasPrinted, HasBrokenOff, HasBrokenOffAt};
+ghost use Rattle.deck_run.specs.Runs.{deck_ending, counts_of, HoldsBeginning, HasWritten, HasRun, HasBegun, HasPrinted, HasBrokenOff};
 ghost use Rattle.deck_run.specs.Audited.{end_told, is_broken, Then, IsSettled, IsWrittenAhead};
 ghost use Rattle.deck_run.specs.inner.Ahead.{IsAhead, EndsAhead};
 ghost use Rattle.deck_run.specs.Faults.{status_of, fault_line};
@@ -29,7 +29,8 @@ use std::alloc::{AllocError, Global};
 /// as it is served or has ended, and then the catalogue as it stands. Where the deck is only to be checked, none of this is
 /// done, and `DECK OK` is written in place of it.
 ///
-/// Memory may break off turns of jobs; the run goes on then. The marks say where it did.
+/// Memory may break off turns of jobs; the run goes on then. The marks say where it did. How far the run has come is noted in the
+/// shortage, to be told where memory runs out.
 ///
 /// What happens is told to the audit, a line each, as it happens, and the audit has taken its line before an effect of it is
 /// written. At last it is told how the deck has ended.
@@ -44,59 +45,6 @@ use std::alloc::{AllocError, Global};
 /// where a growth was refused: the output of the lines before that was written. `AuditFault` where the audit was not taken: of what
 /// it was not told nothing was written.
 pub fn run_deck<D: DeckDevices, A: Sink>(
-    alloc: Global,
-    devices: &mut D,
-    options: Options,
-    audit: &mut A,
-) -> Result<Counts, RunError>
-    requires sound { (D.read_failed devices.old ≡ false) × (D.write_failed devices.old ≡ false) }
-
-    // A good deck was read to its end, and its output was written, whose catalogue can be read again.
-    ensures at_end { OnOk result (IsAtEnd (D.remaining devices.new)) }
-    ensures stopped { OnOk result (IfSome (D.remaining devices.old) (λ bytes. deck_ending bytes ≡ Stopped)) }
-    ensures output { OnOk result (IfSome (D.remaining devices.old) (λ bytes. Then (HasRun options (D.written devices.old) (D.written devices.new) bytes (A.standing audit.old)) (end_told options.check result) (A.standing audit.new))) }
-    ensures counts { IfOk result (λ counts. IfSome (D.remaining devices.old) (λ bytes. counts ≡ counts_of bytes)) }
-
-    // A refused deck is refused at its first refusal, and what came before that was written.
-    ensures refused { (line : ℕ) (code : DeckError) → result ≡ Err (RunError.DeckRefused line code) →
-        IfSome (D.remaining devices.old) (λ bytes. deck_ending bytes ≡ Refused line code) }
-    ensures refused_output { (line : ℕ) (code : DeckError) → result ≡ Err (RunError.DeckRefused line code) →
-        IfSome (D.remaining devices.old) (λ bytes. Then (HasWritten options (D.written devices.old) (D.written devices.new) bytes (A.standing audit.old)) (end_told options.check result) (A.standing audit.new)) }
-
-    // Whatever is answered, what was written is a beginning of the output, and what was put to the audit a beginning of the audit; and
-    // behind it the line of an end at most.
-    ensures begun { (end : Result Counts RunError) × Then (HasBegun options (D.remaining devices.old) (D.remaining devices.new) (D.written devices.old) (D.written devices.new) (A.standing audit.old)) (end_told options.check end) (A.standing audit.new) }
-
-    // Nothing was written of which the audit's writer has not taken all lines before, and those of all that came before; and where the deck
-    // came to its end, it has taken all.
-    ensures ahead { A.heeded ≡ true → IsWrittenAhead options (D.remaining devices.old) (D.remaining devices.new) (D.written devices.old) (D.written devices.new) (A.standing audit.old) (A.standing audit.new) }
-    ensures settled { A.heeded ≡ true → is_broken result ≡ false → IsSettled (A.standing audit.new) }
-
-    // Where the reader failed, all lines that were read whole have been answered, and none was refused. They had been before
-    // that read, since nothing may be written after it.
-    ensures due { result ≡ Err RunError.ReadFault → HasPrinted options (D.remaining devices.old) (D.remaining devices.new) (D.written devices.old) (D.written devices.new) (A.standing audit.old) (A.standing audit.new) }
-
-    // Where memory ran out, it did at a line of the last read: those before it have been answered, none was refused, and no
-    // `$STOP` was among them.
-    ensures short { result ≡ Err RunError.Memory → HasBrokenOff options (D.remaining devices.old) (D.remaining devices.new) (D.written devices.old) (D.written devices.new) (A.standing audit.old) (A.standing audit.new) }
-
-    // Where a device failed, or the audit was not taken, that is told; and only there.
-    ensures faults { (D.read_failed devices.new ≡ true → result ≡ Err RunError.ReadFault) × (D.write_failed devices.new ≡ true → result ≡ Err RunError.WriteFault) }
-    ensures read_fault { result ≡ Err RunError.ReadFault →
-        (D.read_failed devices.new ≡ true) ⊎ HasRead MOST_READS (D.reads devices.old) (D.reads devices.new) }
-    ensures write_fault { result ≡ Err RunError.WriteFault → D.write_failed devices.new ≡ true }
-    ensures audit_fault { result ≡ Err RunError.AuditFault → (A.heeded ≡ true) × ((A.standing audit.new).failed ≡ true) }
-{
-    let mut shortage = Shortage::new();
-    run_deck_noting(alloc, devices, options, &mut shortage, audit)
-}
-
-/// Runs a deck as `run_deck` does, and notes how far it has come, to be told where memory runs out.
-///
-/// # Errors
-///
-/// As `run_deck`.
-pub fn run_deck_noting<D: DeckDevices, A: Sink>(
     alloc: Global,
     devices: &mut D,
     options: Options,
@@ -130,9 +78,9 @@ pub fn run_deck_noting<D: DeckDevices, A: Sink>(
     // that read, since nothing may be written after it.
     ensures due { result ≡ Err RunError.ReadFault → HasPrinted options (D.remaining devices.old) (D.remaining devices.new) (D.written devices.old) (D.written devices.new) (A.standing audit.old) (A.standing audit.new) }
 
-    // Where memory ran out, it did at a line of the last read: those before it have been answered, none was refused, and no
-    // `$STOP` was among them.
-    ensures short { result ≡ Err RunError.Memory → HasBrokenOff options (D.remaining devices.old) (D.remaining devices.new) (D.written devices.old) (D.written devices.new) (A.standing audit.old) (A.standing audit.new) }
+    // Where memory ran out, it did at the line that is noted, of the last read: those before it have been answered, none was refused,
+    // and no `$STOP` was among them.
+    ensures short { result ≡ Err RunError.Memory → HasBrokenOff options shortage.new.line (D.remaining devices.old) (D.remaining devices.new) (D.written devices.old) (D.written devices.new) (A.standing audit.old) (A.standing audit.new) }
 
     // Where a device failed, or the audit was not taken, that is told; and only there.
     ensures faults { (D.read_failed devices.new ≡ true → result ≡ Err RunError.ReadFault) × (D.write_failed devices.new ≡ true → result ≡ Err RunError.WriteFault) }
@@ -140,9 +88,6 @@ pub fn run_deck_noting<D: DeckDevices, A: Sink>(
         (D.read_failed devices.new ≡ true) ⊎ HasRead MOST_READS (D.reads devices.old) (D.reads devices.new) }
     ensures write_fault { result ≡ Err RunError.WriteFault → D.write_failed devices.new ≡ true }
     ensures audit_fault { result ≡ Err RunError.AuditFault → (A.heeded ≡ true) × ((A.standing audit.new).failed ≡ true) }
-
-    // Where memory ran out, the line that is noted is the one behind those that were read whole.
-    ensures line { result ≡ Err RunError.Memory → HasBrokenOffAt options shortage.new.line (D.remaining devices.old) (D.remaining devices.new) (D.written devices.old) (D.written devices.new) (A.standing audit.old) (A.standing audit.new) }
 {
     let answer = run_cards(alloc, devices, options, shortage, audit);
     tell_end(options.check, answer, audit)
@@ -167,14 +112,13 @@ fn run_cards<D: DeckDevices, A: Sink>(
         IfSome (D.remaining devices.old) (λ bytes. HasWritten options (D.written devices.old) (D.written devices.new) bytes (A.standing audit.old) (A.standing audit.new)) }
     ensures begun { HasBegun options (D.remaining devices.old) (D.remaining devices.new) (D.written devices.old) (D.written devices.new) (A.standing audit.old) (A.standing audit.new) }
     ensures due { result ≡ Err RunError.ReadFault → HasPrinted options (D.remaining devices.old) (D.remaining devices.new) (D.written devices.old) (D.written devices.new) (A.standing audit.old) (A.standing audit.new) }
-    ensures short { result ≡ Err RunError.Memory → HasBrokenOff options (D.remaining devices.old) (D.remaining devices.new) (D.written devices.old) (D.written devices.new) (A.standing audit.old) (A.standing audit.new) }
     ensures faults { (D.read_failed devices.new ≡ true → result ≡ Err RunError.ReadFault) × (D.write_failed devices.new ≡ true → result ≡ Err RunError.WriteFault) }
     ensures read_fault { result ≡ Err RunError.ReadFault →
         (D.read_failed devices.new ≡ true) ⊎ HasRead MOST_READS (D.reads devices.old) (D.reads devices.new) }
     ensures write_fault { result ≡ Err RunError.WriteFault → D.write_failed devices.new ≡ true }
     ensures audit_fault { result ≡ Err RunError.AuditFault → (A.heeded ≡ true) × ((A.standing audit.new).failed ≡ true) }
     ensures ahead { A.heeded ≡ true → IsWrittenAhead options (D.remaining devices.old) (D.remaining devices.new) (D.written devices.old) (D.written devices.new) (A.standing audit.old) (A.standing audit.new) }
-    ensures line { result ≡ Err RunError.Memory → HasBrokenOffAt options shortage.new.line (D.remaining devices.old) (D.remaining devices.new) (D.written devices.old) (D.written devices.new) (A.standing audit.old) (A.standing audit.new) }
+    ensures short { result ≡ Err RunError.Memory → HasBrokenOff options shortage.new.line (D.remaining devices.old) (D.remaining devices.new) (D.written devices.old) (D.written devices.new) (A.standing audit.old) (A.standing audit.new) }
 {
     *shortage = Shortage::new();
     let mut feed = DeckFeed::new(alloc, options);

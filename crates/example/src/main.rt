@@ -4,7 +4,7 @@
 
 use anyhow::Result;
 use snomon_library::{
-    Counts, Devices, MemWriter, NoAudit, Options, RunError, Seed, StdReader, exit_status,
+    Counts, Devices, MemWriter, NoAudit, Options, RunError, Seed, Shortage, StdReader, exit_status,
     put_fault, read_options, run_deck,
 };
 use std::alloc::{AllocError, Global};
@@ -39,7 +39,13 @@ fn run_kept<R: Read + Drop>(alloc: Global, options: Options, input: R) -> Result
     let reader = StdReader::<R, Brand>::new(input);
     let writer = MemWriter::new(alloc, ROOM)?;
     let mut devices = Devices::new(reader, writer);
-    let outcome = run_deck(alloc, &mut devices, options, &mut NoAudit);
+    let outcome = run_deck(
+        alloc,
+        &mut devices,
+        options,
+        &mut Shortage::new(),
+        &mut NoAudit,
+    );
     let Devices { reader: _, writer } = devices;
     Ok(Ran {
         outcome,

@@ -36,6 +36,7 @@ impl<T: Drop> Listed<T> {
     }
 
     /// The values, in order.
+    #[inline(always)]
     pub fn as_slice(&self) -> &[T]
         ensures { result.now ≡ self.now }
     {

@@ -76,7 +76,15 @@ fn read_one(
 ) -> Result<(), AllocError>
     ensures { OnOk result (AddsOne place submission.now texts.old.items texts.new.items) }
 {
-    let text = text_of(alloc, place, submission.tally.work, &submission.text)?;
+    let text = text_of(alloc, place, work_of(submission), &submission.text)?;
     texts.push(text)?;
     Ok(())
+}
+
+// What its jobs may do; and its bytes, since one that has no job is work, too.
+fn work_of(submission: &Submission) -> u128 {
+    submission
+        .tally
+        .work
+        .saturating_add(submission.tally.bytes as u128)
 }

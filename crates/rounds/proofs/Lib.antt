@@ -1,7 +1,3 @@
-pub mod Queues
-pub mod Turns
-pub mod Fairness
-pub mod Taking
 pub mod Empty
 pub mod Delivering
 pub mod Telling

@@ -1,4 +1,3 @@
-pub mod Order
 pub mod Delivery
 pub mod Compositions
 pub mod Beginnings

@@ -2,7 +2,7 @@
 use Rattle.std.specs.Prelude.{ℕ, List, ◌++◌, length, map}
 use Rattle.mon_text.specs.declared.name.Name.{Name}
 use Rattle.preflight.specs.declared.submission.Submission.{Submission}
-use Rattle.rounds.specs.Order.{served}
+use Rattle.ledger_turns.specs.Order.{served}
 use Rattle.rounds.specs.Compositions.{round_text}
 use Rattle.site_plan.specs.declared.desk.Desk.{Desk}
 use Rattle.site_plan.specs.declared.runs.Runs as runs

@@ -1,15 +1,8 @@
 //! Laws over rounds: each function's contract is one.
-ghost use Rattle.rounds.specs.Order.{FairOrder};
 ghost use Rattle.rounds.specs.Example.{TheyFindAlike};
 ghost use Rattle.rounds.specs.Isolation.{TextsIsolated, SitesIsolated};
 ghost use Rattle.rounds.specs.InParts.{RoundsRunInParts};
 ghost use Rattle.rounds.specs.Laws.{EachAlone, Delivers, EachTells, EachItsPart, EachItsOwn, EachItsDue, EachItsReply, GoesOn};
-
-/// The order of a round is fair: each text has its place in it, each account's stand in their own order, and nowhere is an
-/// account ahead of another, that has texts left, by more than one.
-pub fn fair_order<T>()
-    ensures { FairOrder T }
-{}
 
 /// A text leaves all slots empty: the next one finds nothing of it except the data sets.
 pub fn each_alone()

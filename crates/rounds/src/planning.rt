@@ -6,7 +6,7 @@ ghost use Rattle.rounds.specs.Planning.{order_of, deck_of, seen, runs_as, refuse
 
 use crate::beginning::Head;
 use crate::composing::{put_stop, put_text};
-use crate::order::in_turns;
+use ledger_turns::in_turns;
 use site_plan::{Desk, Entry, Judged, Plan, Refused, Runs, Taken, Verdict};
 use std::alloc::{AllocError, Global};
 use std::collections::VecDeque;

@@ -6,8 +6,8 @@ use crate::cuts::first_bad_cut;
 use crate::difference::first_difference;
 use anyhow::{Context, Result};
 use deck_run::{
-    Counts, Devices, MemReader, MemWriter, NoAudit, Options, RunError, Slots, exit_status,
-    put_fault, run_deck,
+    Counts, Devices, MemReader, MemWriter, NoAudit, Options, RunError, Shortage, Slots,
+    exit_status, put_fault, run_deck,
 };
 use std::alloc::{AllocError, Global};
 use std::fs;
@@ -120,7 +120,13 @@ impl Case {
         let reader = MemReader::in_pieces(self.deck.as_slice(), most_read);
         let writer = MemWriter::in_pieces(alloc, ROOM, most_written)?;
         let mut devices = Devices::new(reader, writer);
-        let counts = run_deck(alloc, &mut devices, options, &mut NoAudit);
+        let counts = run_deck(
+            alloc,
+            &mut devices,
+            options,
+            &mut Shortage::new(),
+            &mut NoAudit,
+        );
         outcome_of(alloc, &counts, devices.writer.as_bytes())
     }
 }

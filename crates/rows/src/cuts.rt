@@ -3,7 +3,7 @@ ghost use Rattle.std.specs.Prelude.{◌≡◌, ◌<◌, false};
 
 use deck_run::{
     Counts, DeckError, DeckFeed, Devices, MemReader, MemWriter, NoAudit, Options, RunError,
-    run_deck,
+    Shortage, run_deck,
 };
 use mon_device::TextSink;
 use mon_monitor::Printed;
@@ -32,7 +32,13 @@ fn run_of(alloc: Global, reader: MemReader<'_>, options: Options) -> Result<Run,
 {
     let writer = MemWriter::new(alloc, ROOM)?;
     let mut devices = Devices::new(reader, writer);
-    let outcome = run_deck(alloc, &mut devices, options, &mut NoAudit);
+    let outcome = run_deck(
+        alloc,
+        &mut devices,
+        options,
+        &mut Shortage::new(),
+        &mut NoAudit,
+    );
     let Devices { reader: _, writer } = devices;
     Ok(Run { outcome, writer })
 }

@@ -7,7 +7,7 @@ ghost use Rattle.sno_expression.specs.inner.Reading.{fill, prefixed, begin, clos
 ghost use Rattle.sno_expression.specs.inner.Reading.{omitted, omitted_last, after_prefix, ended, variable_due, result as result_of};
 ghost use Rattle.sno_expression.specs.inner.Telling.{lack_at, begins, is_identifier, is_call, starts_in, ends_in, goes_on, onward};
 ghost use Rattle.sno_expression.specs.inner.Telling.{told, telling, Tells};
-ghost use Rattle.sno_expression.specs.inner.First.{is_apart, plain, operand_by, marked_operand, next_operand};
+ghost use Rattle.sno_expression.specs.inner.First.{is_apart, plain, Joins, operand_by, marked_operand, next_operand};
 ghost use Rattle.sno_expression.specs.inner.Reading as states;
 ghost use Rattle.sno_expression.specs.Abstraction.{expression_of, arguments_of, expressions_of};
 ghost use Rattle.sno_expression.specs.inner.Told.{spine_tree, hole_of, stack_of, state_of, stepped, or_ended, reading, step_of, Next, End, joint_of, told_of};
@@ -17,10 +17,10 @@ use crate::position::{begins, begins_variable, most, opens_bracket};
 use crate::pushing::{closed as closed_tree, extend, grow};
 use crate::spine::{Plain, Spine};
 use crate::tree::{
-    Arguments, BinaryOperator, Call, Expression, IdentifierPrefix, Prefix, TableItem,
+    Arguments, BinaryOperator, Call, Expression, IdentifierPrefix, Pending, Prefix, TableItem,
     UnaryOperator, needs_variable, operand_is_variable, operator_of, prefix_of,
 };
-use sno_lexer::{Characters, Mark, Token, TokenKind};
+use sno_lexer::{Characters, Mark, Token, TokenKind, Word};
 use std::alloc::{AllocError, Global};
 
 /// What waits for an operand.
@@ -727,7 +727,28 @@ fn next_operand(alloc: Global, tokens: &[Token]) -> Result<Option<Plain>, AllocE
     }
 }
 
-// Plain operands that go on behind the first: as many steps of `read`, but nothing is moved from step to step.
+// The name that comes next behind an operand and a blank, where no bracket follows.
+#[inline(always)]
+fn next_name<'a, 't>(tokens: &'a [Token<'t>]) -> Option<&'a Word<'t>>
+    ensures { IfSome result (λ name. Some (Joins BinaryOperator.Concatenation (expressions.Identifier name.now) 1) ≡ next_operand tokens.now) }
+{
+    match tokens {
+        [] => None,
+        [token, behind @ ..] => match &token.kind {
+            TokenKind::Identifier(name) => {
+                if token.blank_before && is_apart(behind) {
+                    Some(name)
+                } else {
+                    None
+                }
+            }
+            _ => None,
+        },
+    }
+}
+
+// Plain operands that go on behind the first: as many steps of `read`, but nothing is moved from step to step. Names come first:
+// a concatenation may stand under concatenations, so nothing is closed or compared for them.
 #[inline(never)]
 fn operands_follow<'a, 't>(
     alloc: Global,
@@ -740,6 +761,15 @@ fn operands_follow<'a, 't>(
     let mut pending = Vec::new(alloc);
     let mut last = first;
     let mut at = 0;
+    'names: while let Some(word) = next_name(&tokens[at..]) {
+        let name = word.characters(alloc)?;
+        pending.push(Pending {
+            left: last,
+            operator: BinaryOperator::Concatenation,
+        })?;
+        last = Expression::Identifier(name);
+        at += 1;
+    }
     'operands: while let Some(next) = next_operand(alloc, &tokens[at..])? {
         let grown = extend(alloc, next.operator, next.operand, pending, last)?;
         pending = grown.pending;

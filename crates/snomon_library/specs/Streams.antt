@@ -10,7 +10,7 @@ use Rattle.deck_driver.specs.declared.fault.RunError.TheVariants.{DeckRefused, R
 use Rattle.deck_driver.specs.declared.options.Options.{Options}
 use Rattle.deck_driver.specs.declared.options.Counts.{Counts}
 use Rattle.deck_run.specs.Audited.{end_told, is_broken, Then, IsSettled, IsWrittenAhead}
-use Rattle.deck_run.specs.Runs.{deck_ending, counts_of, HasWritten, HasRun, HasBegun, HasPrinted, HasBrokenOffAt}
+use Rattle.deck_run.specs.Runs.{deck_ending, counts_of, HasWritten, HasRun, HasBegun, HasPrinted, HasBrokenOff}
 use Rattle.deck_run.specs.declared.shortage.Shortage.{Shortage}
 
 -- what a stream tells now that told this at first: nothing, where it told nothing
@@ -18,7 +18,7 @@ abbrev pub told_since : Option (List ℕ) → Option (List ℕ) → Option (List
 told_since first now = where_told (is_some first) now
 
 -- How a run of a deck comes out, by what its reader told and has left, what its writer held and holds now, how its audit stood and stands,
--- whether somebody listens to that, and how far the run had come where memory ran out: what `run_deck_noting` says of its devices.
+-- whether somebody listens to that, and how far the run had come where memory ran out: what `run_deck` says of its devices.
 pub record Comes (options : Options) (told left held now : Option (List ℕ)) (a b : Standing) (heeded : Bool) (outcome : Result Counts RunError) (shortage : Shortage) : Type 0 where
   pub at_end : OnOk outcome (IsAtEnd left)
   pub stopped : OnOk outcome (IfSome told (λ bytes. deck_ending bytes ≡ Stopped))
@@ -31,5 +31,5 @@ pub record Comes (options : Options) (told left held now : Option (List ℕ)) (a
   pub ahead : heeded ≡ true → IsWrittenAhead options told left held now a b
   pub settled : heeded ≡ true → is_broken outcome ≡ false → IsSettled b
   pub due : outcome ≡ Err ReadFault → HasPrinted options told left held now a b
-  pub short : outcome ≡ Err Memory → HasBrokenOffAt options shortage.line told left held now a b
+  pub short : outcome ≡ Err Memory → HasBrokenOff options shortage.line told left held now a b
   pub audit_fault : outcome ≡ Err AuditFault → (heeded ≡ true) × (b.failed ≡ true)

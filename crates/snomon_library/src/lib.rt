@@ -14,8 +14,8 @@ pub mod streams;
 
 pub use deck_run::{
     Counts, DeckDevices, DeckError, DeckFeed, DeckReader, DeckWriter, Devices, Failed, MemReader,
-    MemWriter, NoAudit, Options, RunError, Slots, StdReader, StdWriter, Telling, exit_status,
-    put_fault, run_deck,
+    MemWriter, NoAudit, Options, RunError, Shortage, Slots, StdReader, StdWriter, Telling,
+    exit_status, put_fault, run_deck,
 };
 pub use mon_device::Sink;
 pub use mon_monitor::Printed;

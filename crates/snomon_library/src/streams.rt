@@ -3,7 +3,7 @@ ghost use Rattle.mon_device.specs.Telling.{MayTell, where_told};
 ghost use Rattle.snomon_library.specs.Streams.{Comes, told_since};
 
 use deck_run::{
-    Counts, Devices, Options, RunError, Shortage, StdReader, StdWriter, Telling, run_deck_noting,
+    Counts, Devices, Options, RunError, Shortage, StdReader, StdWriter, Telling, run_deck,
 };
 use mon_device::Sink;
 use std::alloc::Global;
@@ -54,7 +54,7 @@ fn run_told<R: Read + Drop, W: Write + Drop, A: Sink, I: Telling, O: Telling>(
     let writer = StdWriter::<W, O>::new(output);
     let mut devices = Devices::new(reader, writer);
     let mut shortage = Shortage::new();
-    let outcome = run_deck_noting(alloc, &mut devices, options, &mut shortage, audit);
+    let outcome = run_deck(alloc, &mut devices, options, &mut shortage, audit);
     let Devices { reader, writer } = devices;
     Ran {
         outcome,

@@ -1,6 +1,6 @@
 //! What `read_options` makes of the words of a command line. How many slots they give shows in which of the jobs of a deck ends first.
 use snomon_library::{
-    Devices, MemReader, MemWriter, NoAudit, Options, Seed, read_options, run_deck,
+    Devices, MemReader, MemWriter, NoAudit, Options, Seed, Shortage, read_options, run_deck,
 };
 use std::alloc::Global;
 
@@ -36,7 +36,13 @@ fn has_slot_for(alloc: Global, options: Options, jobs: u8) -> bool {
         return false;
     };
     let mut devices = Devices::new(MemReader::new(deck.as_slice()), writer);
-    let counts = run_deck(alloc, &mut devices, options, &mut NoAudit);
+    let counts = run_deck(
+        alloc,
+        &mut devices,
+        options,
+        &mut Shortage::new(),
+        &mut NoAudit,
+    );
     let first = devices.writer.as_bytes().get(b"JOB ".len());
     is_put && counts.is_ok() && first.is_some_and(|byte| *byte == digit(jobs))
 }

@@ -2,7 +2,7 @@
 
 use crate::submissions::block::put_line;
 use anyhow::Result;
-use rounds::in_turns;
+use ledger_turns::in_turns;
 use std::alloc::{AllocError, Global};
 use std::collections::VecDeque;
 

@@ -3,7 +3,7 @@
 use crate::submissions::block::{put_line, text_of};
 use crate::submissions::text::examined;
 use anyhow::{Context, Result, bail, ensure};
-use deck_run::{Devices, MemReader, MemWriter, Options, Slots, run_deck};
+use deck_run::{Devices, MemReader, MemWriter, Options, Shortage, Slots, run_deck};
 use mon_catalogue::{Catalogue, Version, read_text};
 use mon_device::TextSink;
 use mon_text::{Line, read_line};
@@ -112,7 +112,14 @@ fn prints(
     let mut devices = Devices::new(MemReader::new(deck), writer);
     let mut again = Vec::new(alloc);
     let mut audit = TextSink::new(&mut again);
-    let is_good = run_deck(alloc, &mut devices, options, &mut audit).is_ok();
+    let is_good = run_deck(
+        alloc,
+        &mut devices,
+        options,
+        &mut Shortage::new(),
+        &mut audit,
+    )
+    .is_ok();
     audit.settle()?;
     Ok(is_good && devices.writer.as_bytes() == output && again.as_slice() == told)
 }

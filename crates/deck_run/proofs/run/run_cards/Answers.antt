@@ -1,7 +1,7 @@
 use Rattle.std.proofs.Common.{rules, refl, inl, ◌≡◌, ◌∙◌, sym, subst, [], List, ℕ, Option}
 use Rattle.deck_syntax.specs.Decks.{Stopped, Refused}
-use Rattle.deck_run.specs.{Runs.{deck_ending, HasWritten, HasRun, HasBegun, HasBrokenOff, HasBrokenOffAt}, Audited.{IsWrittenAhead}}
-use Rattle.deck_run.proofs.{Ahead.{finished_ahead, broken_ahead}, Due.{due, broken_off, broken_off_at}}
+use Rattle.deck_run.specs.{Runs.{deck_ending, HasWritten, HasRun, HasBegun, HasBrokenOff}, Audited.{IsWrittenAhead}}
+use Rattle.deck_run.proofs.{Ahead.{finished_ahead, broken_ahead}, Due.{due, broken_off}}
 use Rattle.deck_driver.proofs.Telling.{refused_so}
 use Rattle.deck_run.proofs.Running.{run_good, run_bad, met_bad, on_good, counts_good, if_some, IsGood, broken, finished, fault_so, memory_so, broke_behind, begun_at_start, broke_at_start}
 use Rattle.deck_run.proofs.run.run_cards.Goals as goal
@@ -96,23 +96,11 @@ returns-in-Ok-clause-short g c = λ short.
     let b = g.A.Sink.standing c.finish.new.audit in
     let held = g.D.DeckDevices.written c.args.devices.now in
     let now = g.D.DeckDevices.written c.finish.new.devices in
-    let at = c.finish.ensures.short short in
-    let broke = broke_behind _ _ held _ c.new-feed.result _ r.0 _ _ r.1 now 1 c.feed_all.new.shortage.line _ at.2 at.1 at.0 r.2 at.3 in
-    subst (λ (l : Option (List ℕ)). HasBrokenOff c.args.options (g.D.DeckDevices.remaining c.args.devices.now) l held now a b) (sym c.finish.ensures.apart.0)
-    (broken_off c.args.options _ _ held now _ _ _ (broken_off_at c.args.options _ _ held now c.new-feed.result broke.0 _ _ c.new-feed.ensures.start c.new-feed.ensures.audit _ broke.1))
-
-pub returns-in-Ok-clause-line : goal.returns-in-Ok-clause-line
-returns-in-Ok-clause-line g c = λ short.
-    let r = c.in-Ok.ensures.runs in
-    let a = g.A.Sink.standing c.args.audit.now in
-    let b = g.A.Sink.standing c.finish.new.audit in
-    let held = g.D.DeckDevices.written c.args.devices.now in
-    let now = g.D.DeckDevices.written c.finish.new.devices in
     let line = c.feed_all.new.shortage.line in
     let at = c.finish.ensures.short short in
     let broke = broke_behind _ _ held _ c.new-feed.result _ r.0 _ _ r.1 now 1 line _ at.2 at.1 at.0 r.2 at.3 in
-    subst (λ (l : Option (List ℕ)). HasBrokenOffAt c.args.options line (g.D.DeckDevices.remaining c.args.devices.now) l held now a b) (sym c.finish.ensures.apart.0)
-    (broken_off_at c.args.options _ _ held now c.new-feed.result broke.0 _ _ c.new-feed.ensures.start c.new-feed.ensures.audit _ broke.1)
+    subst (λ (l : Option (List ℕ)). HasBrokenOff c.args.options line (g.D.DeckDevices.remaining c.args.devices.now) l held now a b) (sym c.finish.ensures.apart.0)
+    (broken_off c.args.options _ _ held now c.new-feed.result broke.0 _ _ c.new-feed.ensures.start c.new-feed.ensures.audit _ broke.1)
 
 pub returns-in-Err-clause-begun : goal.returns-in-Err-clause-begun
 returns-in-Err-clause-begun g c =
@@ -127,25 +115,15 @@ returns-in-Err-clause-due g c = λ fault.
 pub returns-in-Err-clause-short : goal.returns-in-Err-clause-short
 returns-in-Err-clause-short g c = λ short.
     let b = c.feed_all.ensures.short (c.in-Err.is ∙ memory_so c.in-Err.error short) in
-    broken_off c.args.options _ _ _ _ _ _ _ (broken_off_at c.args.options _ _ _ _ c.new-feed.result b.0 _ _ c.new-feed.ensures.start c.new-feed.ensures.audit _ b.1)
-
-pub returns-in-Err-clause-line : goal.returns-in-Err-clause-line
-returns-in-Err-clause-line g c = λ short.
-    let b = c.feed_all.ensures.short (c.in-Err.is ∙ memory_so c.in-Err.error short) in
-    broken_off_at c.args.options _ _ _ _ c.new-feed.result b.0 _ _ c.new-feed.ensures.start c.new-feed.ensures.audit _ b.1
+    broken_off c.args.options _ _ _ _ c.new-feed.result b.0 _ _ c.new-feed.ensures.start c.new-feed.ensures.audit _ b.1
 
 pub returns-in_err-out-clause-begun : goal.returns-in_err-out-clause-begun
 returns-in_err-out-clause-begun g c = broken c.args.options _ _ _ _ c.new-feed.result _ _ c.new-feed.ensures.start c.new-feed.ensures.audit [] (begun_at_start _ _ _ _)
 
 pub returns-in_err-out-clause-short : goal.returns-in_err-out-clause-short
 returns-in_err-out-clause-short g c = λ short.
-    let b = broke_at_start (g.D.DeckDevices.remaining c.args.devices.now) (g.D.DeckDevices.written c.args.devices.now) c.new-feed.result 1 (g.A.Sink.standing c.args.audit.now) refl (search rules) in
-    broken_off c.args.options _ _ _ _ _ _ 1 (broken_off_at c.args.options _ _ _ _ c.new-feed.result b.0 _ _ c.new-feed.ensures.start c.new-feed.ensures.audit 1 b.1)
-
-pub returns-in_err-out-clause-line : goal.returns-in_err-out-clause-line
-returns-in_err-out-clause-line g c = λ short.
     let b = broke_at_start (g.D.DeckDevices.remaining c.args.devices.now) (g.D.DeckDevices.written c.args.devices.now) c.new-feed.result _ (g.A.Sink.standing c.args.audit.now) c.new.ensures.line (search rules) in
-    broken_off_at c.args.options _ _ _ _ c.new-feed.result b.0 _ _ c.new-feed.ensures.start c.new-feed.ensures.audit _ b.1
+    broken_off c.args.options _ _ _ _ c.new-feed.result b.0 _ _ c.new-feed.ensures.start c.new-feed.ensures.audit _ b.1
 
 pub returns-in-Ok-clause-ahead : goal.returns-in-Ok-clause-ahead
 returns-in-Ok-clause-ahead g c = λ heeded.

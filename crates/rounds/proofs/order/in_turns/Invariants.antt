@@ -1,8 +1,0 @@
--- What was put in order, and what the turns that are left take, are all of the order.
-use Rattle.std.proofs.Common.{◌≡◌, ◌++◌, ◌-◌, map}
-use Rattle.rounds.specs.Order.{in_turns, served}
-use Rattle.rounds.proofs.order.in_turns.Given as goal
-
-abbrev pub invariant-loop : goal.invariant-loop
-invariant-loop g l =
-    l.order.items ++ in_turns (l.turns - l.counter) (map (λ queue. queue.items) l.queues.items) ≡ served l.fn.round (map (λ queue. queue.items) l.fn.queues.items)
