@@ -6,7 +6,7 @@ import contextlib
 import functools
 import os
 import subprocess
-from typing import BinaryIO, Iterator, List, Optional, Tuple
+from typing import IO, BinaryIO, Iterator, List, Optional, Tuple
 
 from .parts import CARDS_FILE
 from .text import Fault, Refused
@@ -68,7 +68,7 @@ def join(folder: str, is_audit: bool, joined: BinaryIO) -> None:
 
 
 @contextlib.contextmanager
-def _running(words: List[str]) -> Iterator[BinaryIO]:
+def _running(words: List[str]) -> Iterator[IO[bytes]]:
     """What a program writes to standard output. Its fault is told when it has ended."""
     with subprocess.Popen(words, stdin=subprocess.DEVNULL, stdout=subprocess.PIPE, stderr=subprocess.PIPE) as running:
         if running.stdout is None or running.stderr is None:

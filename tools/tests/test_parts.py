@@ -4,7 +4,7 @@ from __future__ import annotations
 import os
 import random
 import unittest
-from typing import Dict, List, Optional
+from typing import Callable, Dict, List, Optional, Tuple
 from unittest import mock
 from test_rounds_in_parts import TABLE, Round, Writer
 from trying import NO_WORDS, PARTS, Done, Trying, deck, proved, run
@@ -259,10 +259,11 @@ class OfSnomonDeck(Parts):
         self.is_refused(self.of_deck('split', self.path('whole'), self.path('parts')), 'as of another split')
 
     def test_all_other_decks_are_cut_as_without_it(self) -> None:
+        ways: Tuple[Tuple[str, Callable[..., Done]], ...] = (('with', self.of_deck), ('without', deck))
         for stream in (job('A') + job('B', 'anna') + '$DRAIN\n', '$CATALOG anna\n$DRAIN\n' + job('A') + '$DRAIN\n' + job('B') + '$DRAIN\n'):
             self.write('whole', deck_of(SETS, stream).encode())
             told: List[str] = []
-            for folder, cut in (('with', self.of_deck), ('without', deck)):
+            for folder, cut in ways:
                 done = cut('split', self.path('whole'), self.path(folder))
                 self.assertEqual((done.status, done.out.count(b'\n')), (0, 2))
                 told.append(done.err.replace(folder, ''))
