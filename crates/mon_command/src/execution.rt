@@ -298,6 +298,7 @@ impl Execution<'_> {
 }
 
 // Appends the names that the account is shown, and how many they are, and answers that.
+#[inline(never)]
 fn put_names(
     account: &Account,
     guard: &Guard,
