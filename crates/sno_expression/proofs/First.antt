@@ -1,14 +1,13 @@
 -- The first operand, where one token tells it: what is told of it alone, and where the reading goes on behind it.
-use Rattle.std.proofs.Common.{arith, ◌≡◌, ℕ, ◌+◌, zero, suc, ◌-◌, ◌<◌, ◌≤◌, take, drop, length, List, [], ◌∷◌, refl, sym, ap, ap₂, ◌∙◌, subst}
-use Rattle.std.{proofs.lemmas.List.{length-drop, take_rest}, specs.Prelude.{Bool, true, false, not, ◌&&◌, ◌||◌, Option, Some, None, if◌then◌else◌}}
-use Rattle.sno_lexer.specs.declared.token.{Token.{Token}, TokenKind.{TokenKind}, Mark.{Mark}}
+use Rattle.std.{proofs.Common.{arith, ◌≡◌, ℕ, ◌+◌, ◌-◌, ◌<◌, ◌≤◌, take, drop, length, List, [], ◌∷◌, refl, sym, ap, ap₂, ◌∙◌, subst}, proofs.lemmas.List.{length-drop, drop-drop, take_rest}}
+use Rattle.std.specs.Prelude.{Bool, true, false, not, ◌&&◌, ◌||◌, Option, Some, None, if◌then◌else◌}
+use Rattle.sno_lexer.{specs.declared.token.Token.{Token}, specs.declared.token.TokenKind.{TokenKind}, specs.declared.token.Mark.{Mark}}
 use Rattle.sno_lexer.specs.declared.token.TokenKind.TheVariants as token
-use Rattle.sno_expression.specs.declared.tree.BinaryOperator.{BinaryOperator, TheVariants.{Concatenation}}
-use Rattle.sno_expression.specs.{declared.tree.Expression.{Expression as AnExpression}, Marks.{operator_of, needs_variable}, Spelling.{spaced}}
-use Rattle.sno_expression.{specs.Expressions.{Expression, Identifier, Constant}, specs.Abstraction.{expression_of}, proofs.Loop.{with_none}}
-use Rattle.sno_expression.specs.inner.Telling.{begins_variable, onward, lack_at, fits_at, Told, Tells, then_tell, told, telling}
+use Rattle.sno_expression.{specs.declared.tree.BinaryOperator.{BinaryOperator}, specs.declared.tree.BinaryOperator.TheVariants.{Concatenation}, specs.declared.tree.Expression.{Expression as AnExpression}}
+use Rattle.sno_expression.{specs.Marks.{operator_of, needs_variable}, specs.Spelling.{spaced}, specs.Expressions.{Expression, Identifier, Constant}, specs.Abstraction.{expression_of}, proofs.Loop.{with_none}}
+use Rattle.sno_expression.specs.inner.Telling.{begins_variable, lack_at, fits_at, Told, Tells, then_tell, told, telling}
 use Rattle.sno_expression.specs.inner.First.{is_apart, plain, Joint, Joins, operand_by, marked_operand, joined_by, next_operand}
-use Rattle.sno_expression.specs.inner.Reading.{State, At, Stack, Bottom, Hole, Begin, After, Named, Whole, Due, push, fill, joined, begin, first, after, opened, read, ended, result, opens_bracket, variable_due, start}
+use Rattle.sno_expression.specs.inner.Reading.{State, At, Stack, Bottom, Hole, Begin, After, Named, Whole, Due, push, fill, joined, begin, first, read, result, opens_bracket, variable_due, start}
 
 touches_none : (b : Bool) (k : TokenKind) → opens_bracket false k ≡ false → opens_bracket b k ≡ false
 touches_none b token.Open e = cc
@@ -16,24 +15,17 @@ touches_none b token.OpenAngle e = cc
 touches_none b _ e = refl
 
 not_true : (b : Bool) → not b ≡ true → b ≡ false
-not_true true e = cc
-not_true false e = refl
+not_true b e = grind (arith, e)
 
 and_false : (b : Bool) → (b && false) ≡ false
-and_false true = refl
-and_false false = refl
+and_false b = grind arith
 
 -- a name behind which no bracket comes is a whole operand
 named_whole : (alone : Bool) (st : Stack) (h : Hole) (n : List ℕ) (ts : List Token) → is_apart ts ≡ true → told alone (At st (Named h n)) ts ≡ told alone (At st (Whole (fill h (Identifier n)))) ts
 named_whole alone st h n [] a = refl
 named_whole alone st h n (t ∷ ts) a =
     let f : opens_bracket false t.kind ≡ false = not_true (opens_bracket false t.kind) a in
-    let x = fill h (Identifier n) in
-    let to = λ (touches may lacks : Bool). then_tell
-    (if touches then Some (At (opened n h st t.kind) (Due Begin)) else after alone st x t.blank_before t.blank_after t.kind)
-    (Tells (ended st x) (t ∷ ts) 0 (onward alone st may t.kind)) (if lacks then length (t ∷ ts) + 1 else 0) (λ v. told alone v ts) in
-    ap₂ (λ (b c : Bool). to b c (variable_due h && b)) (touches_none t.blank_before t.kind f) f
-    ∙ ap (to false false) (and_false (variable_due h))
+    rw (touches_none t.blank_before t.kind f, f, and_false (variable_due h))
 
 -- an operand begins and is whole
 begun : (alone : Bool) (s : State) (st : Stack) (h : Hole) (t : Token) (ts : List Token) (x : Expression) → read alone s t ≡ begin st h t.blank_after t.kind → lack_at s t (length (t ∷ ts)) ≡ 0
@@ -100,15 +92,12 @@ mark_goes : (e : Expression) (m : Mark) (o : BinaryOperator) (v : Token) (ts : L
     → (not v.blank_before || (needs_variable o && not (begins_variable v.kind))) ≡ false → plain v.kind ts ≡ Some x
     → GoesOn e (spaced true true (token.Mark m) ∷ v ∷ ts) (Joins o x 2)
 mark_goes e m o v ts x d f p =
-    let g = misfit_none v.blank_before (needs_variable o && not (begins_variable v.kind)) f in (
-      ap (λ (q : Option BinaryOperator). then_tell (joined Bottom e q) (Tells (Some e) (spaced true true (token.Mark m) ∷ v ∷ ts) 0 true) 0 (λ s. told false s (v ∷ ts))) d
-          ∙ (with_none (told false (At Bottom (Due (After e o))) (v ∷ ts))
-          ∙ begun false (At Bottom (Due (After e o))) Bottom (After e o) v ts x
-          (ap (λ (b : Bool). if b then begin Bottom (After e o) v.blank_after v.kind else None) g.0)
-          (ap (λ (b : Bool). if b then length (v ∷ ts) else 0) g.1) p),
-      omega arith,
-      omega arith,
-    )
+    let g = misfit_none v.blank_before (needs_variable o && not (begins_variable v.kind)) f in
+    let h = ap (λ (q : Option BinaryOperator). then_tell (joined Bottom e q) (Tells (Some e) (spaced true true (token.Mark m) ∷ v ∷ ts) 0 true) 0 (λ s. told false s (v ∷ ts))) d
+    ∙ (with_none (told false (At Bottom (Due (After e o))) (v ∷ ts))
+    ∙ begun false (At Bottom (Due (After e o))) Bottom (After e o) v ts x (ap (λ (b : Bool). if b then begin Bottom (After e o) v.blank_after v.kind else None) g.0)
+    (ap (λ (b : Bool). if b then length (v ∷ ts) else 0) g.1) p) in
+    (h, omega arith, omega arith)
 
 marked_goes : (e : Expression) (m : Mark) (q : Option BinaryOperator) (ts : List Token) (j : Joint) → operator_of m ≡ q → marked_operand q ts ≡ Some j
     → GoesOn e (spaced true true (token.Mark m) ∷ ts) j
@@ -139,16 +128,6 @@ goes_on e (t ∷ ts) j d = at t.blank_before t.blank_after t.kind d
     at true a k h = blank_goes e a k ts j h
     at false a k h = cc
 
-drop_none : (n : ℕ) (ts : List Token) → ts ≡ [] → drop n ts ≡ ts
-drop_none zero ts e = refl
-drop_none (suc n) [] e = refl
-drop_none (suc n) (t ∷ ts) e = cc
-
-drop_on : (i n : ℕ) (ts : List Token) → drop n (drop i ts) ≡ drop (i + n) ts
-drop_on zero n ts = ap (λ (k : ℕ). drop k ts) (omega arith)
-drop_on (suc i) n [] = drop_none n [] refl ∙ sym (drop_none (suc i + n) [] refl)
-drop_on (suc i) n (t ∷ ts) = let e : suc (i + n) ≡ suc i + n = omega arith in drop_on i n ts ∙ ap (λ (k : ℕ). drop k (t ∷ ts)) e
-
 -- from a place on
 pub goes_from : (e : Expression) (ts : List Token) (i : ℕ) (o : BinaryOperator) (x : Expression) (n : ℕ)
     → Some (Joins o x n) ≡ next_operand (take (length ts - i) (drop i ts)) → i ≤ length ts
@@ -157,4 +136,4 @@ goes_from e ts i o x n d w =
     let g = goes_on e (drop i ts) (Joins o x n) (sym (d ∙ ap next_operand (take_rest ts i))) in
     let l = length-drop i ts in
     let a = g.2 in
-    (g.0 ∙ ap (told false (At Bottom (Whole (push o x e)))) (drop_on i n ts), g.1, omega (arith, l, a, w))
+    (g.0 ∙ ap (told false (At Bottom (Whole (push o x e)))) (drop-drop n i ts), g.1, omega (arith, l, a, w))

@@ -1,7 +1,6 @@
 -- The leftmost of the places that are marked, told by the number of tokens from it on.
-use Rattle.std.proofs.Common.{arith, ◌≡◌, ℕ, zero, suc, ◌+◌, ◌<◌, ◌≤◌, length, List, [], ◌∷◌, ◌++◌, refl, sym, ap, ◌∙◌}
-use Rattle.std.specs.{Prelude.{Bool, true, false, nat_le, get_or, if◌then◌else◌}, List.{list_any}}
-use Rattle.std.proofs.lemmas.{Bool.Decides.{nat_tests}, List.{length-append}}
+use Rattle.std.{proofs.Common.{arith, ◌≡◌, ℕ, zero, suc, ◌+◌, ◌<◌, ◌≤◌, length, List, [], ◌∷◌, ◌++◌, refl, sym, ap, ◌∙◌}, specs.Prelude.{Bool, true, false, get_or, if◌then◌else◌}, specs.List.{list_any}}
+use Rattle.std.{proofs.lemmas.Bool.Decides.{nat_tests}, proofs.lemmas.List.{length-append}}
 use Rattle.sno_expression.{specs.inner.Telling.{most}, proofs.Loop.{none_most, most_none}}
 
 -- n tokens stand behind those that are marked or not
@@ -11,18 +10,10 @@ lacks (true ∷ bs) n = suc (length bs + n)
 lacks (false ∷ bs) n = lacks bs n
 
 pub most_left : (a b : ℕ) → b ≤ a → most a b ≡ a
-most_left a b h = at (nat_le a b) refl
-  where
-    at : (x : Bool) → nat_le a b ≡ x → (if x then b else a) ≡ a
-    at true e = grind (arith, nat_tests, e, h)
-    at false e = refl
+most_left a b h = grind (arith, nat_tests)
 
 pub most_right : (a b : ℕ) → a ≤ b → most a b ≡ b
-most_right a b h = at (nat_le a b) refl
-  where
-    at : (x : Bool) → nat_le a b ≡ x → (if x then b else a) ≡ b
-    at true e = refl
-    at false e = grind (arith, nat_tests, e, h)
+most_right a b h = grind (arith, nat_tests)
 
 pub within : (bs : List Bool) (n : ℕ) → lacks bs n ≤ length bs + n
 within [] n = omega arith

@@ -1,11 +1,9 @@
-pub mod Before
 pub mod Levels
 pub mod Feeding
 pub mod Lacks
 pub mod Closing
 pub mod Sound
 pub mod Spines
-pub mod Grammar
 pub mod Loop
 mod Examples
 pub mod Runs

@@ -1,10 +1,9 @@
 -- Runs of operators as lists.
 use Rattle.std.proofs.Common.{◌≡◌, refl, sym, ap, ap₂, ◌∙◌, List, Vec, Box, Global}
-use Rattle.sno_expression.specs.declared.tree.{BinaryOperator.{BinaryOperator}, Expression.{Expression as AnExpression}}
-use Rattle.sno_expression.specs.{declared.tree.Pending.{Pending}, Expressions.{Expression, Binary}, Abstraction.{expression_of, spread}}
-use Rattle.sno_expression.specs.inner.Runs.{left_of, right_of, spread_all}
-use Rattle.sno_expression.specs.declared.tree.Expression.TheVariants as tree
+use Rattle.sno_expression.{specs.declared.tree.BinaryOperator.{BinaryOperator}, specs.declared.tree.Expression.{Expression as AnExpression}, specs.declared.tree.Pending.{Pending}}
+use Rattle.sno_expression.{specs.Expressions.{Expression, Binary}, specs.Abstraction.{expression_of, spread}, specs.inner.Runs.{left_of, right_of, spread_all}}
 use Rattle.sno_expression.specs.declared.tree.Operands.{Operands, Operands', out-Operands, roll-Operands, out-roll-Operands, Row_of-Pending, end_of-Pending, more_of-Pending, items-the_row-Pending, items_shown-the_row-Pending-0}
+use Rattle.sno_expression.specs.declared.tree.Expression.TheVariants as tree
 
 pub binary_is : (o : BinaryOperator) (b : Box Operands Global) → expression_of (tree.Binary o b) ≡ Binary o (left_of b.value) (right_of b.value)
 binary_is o b = at b.value

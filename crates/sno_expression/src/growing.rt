@@ -1,8 +1,8 @@
 //! Trees that grow while they are read.
 ghost use Rattle.std.specs.Prelude.{◌≡◌, true, IfOk};
 ghost use Rattle.sno_expression.specs.Expressions as expressions;
-ghost use Rattle.sno_expression.specs.Abstraction.{expression_of, arguments_of};
-ghost use Rattle.sno_expression.specs.inner.Reading.{with_prefix};
+ghost use Rattle.sno_expression.specs.Abstraction.{expression_of, expressions_of, arguments_of};
+ghost use Rattle.sno_expression.specs.inner.Reading.{more, with_prefix};
 ghost use Rattle.sno_expression.specs.inner.Spines.{is_element};
 
 use crate::tree::{Arguments, BinaryOperator, Expression, IdentifierPrefix, Operands};
@@ -37,25 +37,22 @@ pub(crate) fn with_prefix(prefix: IdentifierPrefix, name: Characters) -> Express
     }
 }
 
-// One more argument.
+// One more argument, which may be empty.
 pub(crate) fn add_argument(
     alloc: Global,
     arguments: Arguments,
-    tree: Expression,
+    tree: Option<Expression>,
 ) -> Result<Arguments, AllocError>
-    ensures { IfOk result (λ a. arguments_of a ≡ expressions.Argument (arguments_of arguments) (expression_of tree)) }
+    ensures { IfOk result (λ a. arguments_of a ≡ more (arguments_of arguments) (expressions_of tree)) }
 {
     let arguments = Box::new(alloc, arguments)?;
-    let tree = Box::new(alloc, tree)?;
-    Ok(Arguments::Argument(arguments, tree))
-}
-
-// One more argument, which is empty.
-pub(crate) fn omit_argument(alloc: Global, arguments: Arguments) -> Result<Arguments, AllocError>
-    ensures { IfOk result (λ a. arguments_of a ≡ expressions.Omitted (arguments_of arguments)) }
-{
-    let arguments = Box::new(alloc, arguments)?;
-    Ok(Arguments::Omitted(arguments))
+    match tree {
+        None => Ok(Arguments::Omitted(arguments)),
+        Some(tree) => {
+            let tree = Box::new(alloc, tree)?;
+            Ok(Arguments::Argument(arguments, tree))
+        }
+    }
 }
 
 // The tree of a constant.

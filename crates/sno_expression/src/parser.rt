@@ -3,16 +3,16 @@
 ghost use Rattle.std.specs.Prelude.{◌≡◌, ◌≤◌, ◌<◌, IfOk, IfSome, length, drop, true, false, Some, None};
 ghost use Rattle.sno_expression.specs.Expressions as expressions;
 ghost use Rattle.sno_expression.specs.inner.Spines.{is_element};
-ghost use Rattle.sno_expression.specs.inner.Reading.{fill, prefixed, begin, close, close_angle, comma, first, go_on, closed, after};
-ghost use Rattle.sno_expression.specs.inner.Reading.{omitted, omitted_last, after_prefix, ended, variable_due, result as result_of};
-ghost use Rattle.sno_expression.specs.inner.Telling.{lack_at, begins, is_identifier, is_call, starts_in, ends_in, goes_on, onward};
+ghost use Rattle.sno_expression.specs.inner.Reading.{fill, prefixed, begin, go_on, after, ended, variable_due, result as result_of};
+ghost use Rattle.sno_expression.specs.inner.Telling.{lack_at, begins, goes_on, onward};
 ghost use Rattle.sno_expression.specs.inner.Telling.{told, telling, Tells};
 ghost use Rattle.sno_expression.specs.inner.First.{is_apart, plain, Joins, operand_by, marked_operand, next_operand};
 ghost use Rattle.sno_expression.specs.inner.Reading as states;
-ghost use Rattle.sno_expression.specs.Abstraction.{expression_of, arguments_of, expressions_of};
-ghost use Rattle.sno_expression.specs.inner.Told.{spine_tree, hole_of, stack_of, state_of, stepped, or_ended, reading, step_of, Next, End, joint_of, told_of};
+ghost use Rattle.sno_expression.specs.Abstraction.{expression_of, expressions_of};
+ghost use Rattle.sno_expression.specs.inner.Told.{spine_tree, hole_of, bracket_of, stack_of, state_of, joint_of, told_of};
+ghost use Rattle.sno_expression.specs.inner.Told.{stepped, closing, or_ended, reading, step_of, Next, End};
 
-use crate::growing::{add_argument, omit_argument, tree_of, with_prefix};
+use crate::growing::{add_argument, tree_of, with_prefix};
 use crate::position::{begins, begins_variable, most, opens_bracket};
 use crate::pushing::{closed as closed_tree, extend, grow};
 use crate::spine::{Plain, Spine};
@@ -23,6 +23,10 @@ use crate::tree::{
 use sno_lexer::{Characters, Mark, Token, TokenKind, Word};
 use std::alloc::{AllocError, Global};
 
+type Turn = Result<Step, AllocError>;
+
+type MaybeTree = Result<Option<Expression>, AllocError>;
+
 /// What waits for an operand.
 #[derive(Drop)]
 pub(crate) enum Hole {
@@ -31,7 +35,15 @@ pub(crate) enum Hole {
     Under(UnaryOperator, Box<Hole>),
 }
 
-/// The open parentheses.
+/// An open bracket, with what has been read in it.
+#[derive(Drop)]
+pub(crate) enum Bracket {
+    Group,
+    Call(Characters, Arguments),
+    Item(Characters),
+}
+
+/// The open brackets.
 #[derive(Drop)]
 #[cycle(stack)]
 pub(crate) enum Stack {
@@ -39,33 +51,26 @@ pub(crate) enum Stack {
     Above(Box<Frame>),
 }
 
-/// The innermost open parenthesis with what waits for it, and those around it.
+/// The innermost open bracket, what waits for it, and those around it.
 #[derive(Drop)]
 #[cycle(stack)]
-pub(crate) enum Frame {
-    InGroup(Hole, Stack),
-    InCall(Characters, Arguments, Hole, Stack),
-    InItem(Characters, Hole, Stack),
+pub(crate) struct Frame {
+    held: Bracket,
+    hole: Hole,
+    below: Stack,
 }
 
-/// What stands innermost.
+/// How far an expression has been read, by what stands innermost.
 #[derive(Drop)]
-pub(crate) enum Spot {
+pub(crate) enum State {
     /// An operand is due.
-    Due(Hole),
+    Due(Stack, Hole),
     /// The identifier of a keyword or of an unevaluated expression is due.
-    Prefixed(Hole, IdentifierPrefix),
+    Prefixed(Stack, Hole, IdentifierPrefix),
     /// An identifier, which may yet open a call.
-    Named(Hole, Characters),
+    Named(Stack, Hole, Characters),
     /// A whole operand.
-    Whole(Spine),
-}
-
-/// How far an expression has been read.
-#[derive(Drop)]
-pub(crate) struct State {
-    stack: Stack,
-    spot: Spot,
+    Whole(Stack, Spine),
 }
 
 /// What one more token leads to.
@@ -115,98 +120,75 @@ fn fill(alloc: Global, hole: Hole, operand: Expression) -> Result<Spine, AllocEr
             grow(alloc, operator, operand, pending, last)
         }
         Hole::Under(unary, rest) => {
-            let operand = Box::new(alloc, operand)?;
-            fill(
-                alloc,
-                Box::into_inner(rest),
-                Expression::Unary(unary, operand),
-            )
+            let operand = Expression::Unary(unary, Box::new(alloc, operand)?);
+            fill(alloc, Box::into_inner(rest), operand)
         }
     }
 }
 
 // A whole operand, in its place.
 #[inline(always)]
-fn whole(alloc: Global, stack: Stack, hole: Hole, operand: Expression) -> Result<Step, AllocError>
+fn whole(alloc: Global, stack: Stack, hole: Hole, operand: Expression) -> Turn
     requires { is_element operand ≡ true }
     ensures { IfOk result (λ s. step_of s ≡ Next (states.At (stack_of stack) (states.Whole (fill (hole_of hole) (expression_of operand))))) }
 {
     let spine = fill(alloc, hole, operand)?;
-    Ok(Step::Next(State {
-        stack,
-        spot: Spot::Whole(spine),
-    }))
+    Ok(Step::Next(State::Whole(stack, spine)))
+}
+
+// A bracket opens.
+fn open(alloc: Global, held: Bracket, hole: Hole, below: Stack) -> Turn
+    ensures { IfOk result (λ s. step_of s ≡ Next (states.At (states.In (bracket_of held) (hole_of hole) (stack_of below)) (states.Due states.Begin))) }
+{
+    let frame = Box::new(alloc, Frame { held, hole, below })?;
+    Ok(Step::Next(State::Due(Stack::Above(frame), Hole::Begin)))
 }
 
 // The tree, where one is complete.
 #[inline(always)]
-fn complete(alloc: Global, stack: Stack, spine: Spine) -> Result<Option<Expression>, AllocError>
-    ensures { IfOk result (λ t. expressions_of t ≡ ended (stack_of stack) (spine_tree spine)) }
+fn complete(alloc: Global, stack: Stack, spine: Spine) -> MaybeTree
+    ensures { IfOk result (λ t. expressions_of t ≡ ended (stack_of stack) (Some (spine_tree spine))) }
 {
     match stack {
         Stack::Bottom => {
             let tree = closed_tree(alloc, spine)?;
             Ok(Some(tree))
         }
-        Stack::Above(frame) => match Box::into_inner(frame) {
-            Frame::InGroup(_, _) => Ok(None),
-            Frame::InCall(_, _, _, _) => Ok(None),
-            Frame::InItem(_, _, _) => Ok(None),
-        },
+        Stack::Above(_) => Ok(None),
     }
 }
 
 // A token that is not taken after a whole operand.
 #[inline(always)]
-fn stop(alloc: Global, stack: Stack, spine: Spine, blank: bool) -> Result<Step, AllocError>
-    ensures { IfOk result (λ s. step_of s ≡ End (ended (stack_of stack) (spine_tree spine)) blank) }
+fn stop(alloc: Global, stack: Stack, spine: Spine, blank: bool) -> Turn
+    ensures { IfOk result (λ s. step_of s ≡ End (ended (stack_of stack) (Some (spine_tree spine))) blank) }
 {
     let tree = complete(alloc, stack, spine)?;
     Ok(Step::End(tree, blank))
 }
 
 #[inline(always)]
-fn prefix_begins(
-    alloc: Global,
-    stack: Stack,
-    hole: Hole,
-    prefix: Prefix,
-) -> Result<Step, AllocError>
+fn prefix_begins(alloc: Global, stack: Stack, hole: Hole, prefix: Prefix) -> Turn
     ensures { IfOk result (λ s. step_of s ≡ stepped (prefixed (stack_of stack) (hole_of hole) (Some prefix)) None true) }
 {
     match prefix {
         Prefix::OfOperand(unary) => {
-            let hole = Box::new(alloc, hole)?;
-            Ok(Step::Next(State {
-                stack,
-                spot: Spot::Due(Hole::Under(unary, hole)),
-            }))
+            let hole = Hole::Under(unary, Box::new(alloc, hole)?);
+            Ok(Step::Next(State::Due(stack, hole)))
         }
-        Prefix::OfIdentifier(prefix) => Ok(Step::Next(State {
-            stack,
-            spot: Spot::Prefixed(hole, prefix),
-        })),
+        Prefix::OfIdentifier(prefix) => Ok(Step::Next(State::Prefixed(stack, hole, prefix))),
     }
 }
 
 // An operand begins, where one is due.
 #[inline(always)]
-fn begin(
-    alloc: Global,
-    stack: Stack,
-    hole: Hole,
-    after: bool,
-    kind: &TokenKind,
-) -> Result<Step, AllocError>
+fn begin(alloc: Global, stack: Stack, hole: Hole, after: bool, kind: &TokenKind) -> Turn
     ensures { IfOk result (λ s. step_of s ≡ stepped (begin (stack_of stack) (hole_of hole) after kind.now) None (begins false kind.now)) }
 {
     match kind {
         TokenKind::Identifier(name) => {
             let name = name.characters(alloc)?;
-            Ok(Step::Next(State {
-                stack,
-                spot: Spot::Named(hole, name),
-            }))
+            Ok(Step::Next(State::Named(stack, hole, name)))
         }
         TokenKind::Constant(constant) => {
             let constant = tree_of(alloc, constant)?;
@@ -221,167 +203,62 @@ fn begin(
             }
             None => Ok(Step::End(None, false)),
         },
-        TokenKind::Open => {
-            let frame = Box::new(alloc, Frame::InGroup(hole, stack))?;
-            Ok(Step::Next(State {
-                stack: Stack::Above(frame),
-                spot: Spot::Due(Hole::Begin),
-            }))
-        }
+        TokenKind::Open => open(alloc, Bracket::Group, hole, stack),
         _ => Ok(Step::End(None, false)),
     }
 }
 
-// A call has its last argument.
-#[inline(always)]
-fn call_ends(
-    alloc: Global,
-    name: Characters,
-    arguments: Arguments,
-    hole: Hole,
-    below: Stack,
-) -> Result<Step, AllocError>
-    ensures { IfOk result (λ s. step_of s ≡ Next (states.At (stack_of below) (states.Whole (fill (hole_of hole) (expressions.Call name (arguments_of arguments)))))) }
+// What a bracket holds ends, or one of its arguments, which may be empty.
+fn close(alloc: Global, stack: Stack, tree: Option<Expression>, kind: &TokenKind) -> Turn
+    ensures { IfOk result (λ s. step_of s ≡ closing (stack_of stack) (expressions_of tree) kind.now) }
 {
-    let call = Box::new(alloc, Call { name, arguments })?;
-    whole(alloc, below, hole, Expression::Call(call))
-}
-
-fn close(alloc: Global, stack: Stack, spine: Spine) -> Result<Step, AllocError>
-    ensures { IfOk result (λ s. step_of s ≡ or_ended stack spine close (ends_in (stack_of stack) TokenKind.Close)) }
-{
-    let tree = closed_tree(alloc, spine)?;
-    match stack {
-        Stack::Bottom => Ok(Step::End(Some(tree), false)),
-        Stack::Above(frame) => match Box::into_inner(frame) {
-            Frame::InGroup(hole, below) => {
-                let tree = Box::new(alloc, tree)?;
-                whole(alloc, below, hole, Expression::Group(tree))
-            }
-            Frame::InCall(name, arguments, hole, below) => {
-                let arguments = add_argument(alloc, arguments, tree)?;
-                call_ends(alloc, name, arguments, hole, below)
-            }
-            Frame::InItem(_, _, _) => Ok(Step::End(None, false)),
+    let Stack::Above(frame) = stack else {
+        return Ok(Step::End(tree, false));
+    };
+    let Frame { held, hole, below } = Box::into_inner(frame);
+    match held {
+        Bracket::Group => match kind {
+            TokenKind::Close => match tree {
+                Some(tree) => {
+                    let tree = Box::new(alloc, tree)?;
+                    whole(alloc, below, hole, Expression::Group(tree))
+                }
+                None => Ok(Step::End(None, false)),
+            },
+            _ => Ok(Step::End(None, false)),
         },
-    }
-}
-
-fn close_angle(alloc: Global, stack: Stack, spine: Spine) -> Result<Step, AllocError>
-    ensures { IfOk result (λ s. step_of s ≡ or_ended stack spine close_angle (ends_in (stack_of stack) TokenKind.CloseAngle)) }
-{
-    let tree = closed_tree(alloc, spine)?;
-    match stack {
-        Stack::Bottom => Ok(Step::End(Some(tree), false)),
-        Stack::Above(frame) => match Box::into_inner(frame) {
-            Frame::InGroup(_, _) => Ok(Step::End(None, false)),
-            Frame::InCall(_, _, _, _) => Ok(Step::End(None, false)),
-            Frame::InItem(name, hole, below) => {
-                let item = Box::new(alloc, TableItem { name, key: tree })?;
-                whole(alloc, below, hole, Expression::TableItem(item))
+        Bracket::Call(name, arguments) => {
+            let arguments = add_argument(alloc, arguments, tree)?;
+            match kind {
+                TokenKind::Close => {
+                    let call = Box::new(alloc, Call { name, arguments })?;
+                    whole(alloc, below, hole, Expression::Call(call))
+                }
+                TokenKind::Comma => open(alloc, Bracket::Call(name, arguments), hole, below),
+                _ => Ok(Step::End(None, false)),
             }
+        }
+        Bracket::Item(name) => match kind {
+            TokenKind::CloseAngle => match tree {
+                Some(key) => {
+                    let item = Box::new(alloc, TableItem { name, key })?;
+                    whole(alloc, below, hole, Expression::TableItem(item))
+                }
+                None => Ok(Step::End(None, false)),
+            },
+            _ => Ok(Step::End(None, false)),
         },
-    }
-}
-
-// One more argument of a call is due.
-#[inline(always)]
-fn argument_begins(
-    alloc: Global,
-    name: Characters,
-    arguments: Arguments,
-    hole: Hole,
-    below: Stack,
-) -> Result<Step, AllocError>
-    ensures { IfOk result (λ s. step_of s ≡ Next (states.At (states.InCall name (arguments_of arguments) (hole_of hole) (stack_of below)) (states.Due states.Begin))) }
-{
-    let frame = Box::new(alloc, Frame::InCall(name, arguments, hole, below))?;
-    Ok(Step::Next(State {
-        stack: Stack::Above(frame),
-        spot: Spot::Due(Hole::Begin),
-    }))
-}
-
-fn comma(alloc: Global, stack: Stack, spine: Spine) -> Result<Step, AllocError>
-    ensures { IfOk result (λ s. step_of s ≡ or_ended stack spine comma (ends_in (stack_of stack) TokenKind.Comma)) }
-{
-    let tree = closed_tree(alloc, spine)?;
-    match stack {
-        Stack::Bottom => Ok(Step::End(Some(tree), false)),
-        Stack::Above(frame) => match Box::into_inner(frame) {
-            Frame::InGroup(_, _) => Ok(Step::End(None, false)),
-            Frame::InCall(name, arguments, hole, below) => {
-                let arguments = add_argument(alloc, arguments, tree)?;
-                argument_begins(alloc, name, arguments, hole, below)
-            }
-            Frame::InItem(_, _, _) => Ok(Step::End(None, false)),
-        },
-    }
-}
-
-// An argument is empty, and a comma follows.
-fn empty_before_comma(alloc: Global, stack: Stack) -> Result<Step, AllocError>
-    ensures { IfOk result (λ s. step_of s ≡ stepped (omitted (stack_of stack)) None (is_call (stack_of stack))) }
-{
-    match stack {
-        Stack::Bottom => Ok(Step::End(None, false)),
-        Stack::Above(frame) => match Box::into_inner(frame) {
-            Frame::InGroup(_, _) => Ok(Step::End(None, false)),
-            Frame::InCall(name, arguments, hole, below) => {
-                let arguments = omit_argument(alloc, arguments)?;
-                argument_begins(alloc, name, arguments, hole, below)
-            }
-            Frame::InItem(_, _, _) => Ok(Step::End(None, false)),
-        },
-    }
-}
-
-// An argument is empty, and the last.
-fn empty_at_end(alloc: Global, stack: Stack) -> Result<Step, AllocError>
-    ensures { IfOk result (λ s. step_of s ≡ stepped (omitted_last (stack_of stack)) None (is_call (stack_of stack))) }
-{
-    match stack {
-        Stack::Bottom => Ok(Step::End(None, false)),
-        Stack::Above(frame) => match Box::into_inner(frame) {
-            Frame::InGroup(_, _) => Ok(Step::End(None, false)),
-            Frame::InCall(name, arguments, hole, below) => {
-                let arguments = omit_argument(alloc, arguments)?;
-                call_ends(alloc, name, arguments, hole, below)
-            }
-            Frame::InItem(_, _, _) => Ok(Step::End(None, false)),
-        },
-    }
-}
-
-// An expression or an argument begins, or an argument is empty.
-#[inline(always)]
-fn first(alloc: Global, stack: Stack, after: bool, kind: &TokenKind) -> Result<Step, AllocError>
-    ensures { IfOk result (λ s. step_of s ≡ stepped (first (stack_of stack) after kind.now) None (starts_in (stack_of stack) kind.now)) }
-{
-    match kind {
-        TokenKind::Comma => empty_before_comma(alloc, stack),
-        TokenKind::Close => empty_at_end(alloc, stack),
-        _ => begin(alloc, stack, Hole::Begin, after, kind),
     }
 }
 
 // A mark after an operand and a blank.
 #[inline(always)]
-fn mark_follows(
-    alloc: Global,
-    stack: Stack,
-    spine: Spine,
-    after: bool,
-    mark: Mark,
-) -> Result<Step, AllocError>
+fn mark_follows(alloc: Global, stack: Stack, spine: Spine, after: bool, mark: Mark) -> Turn
     ensures { IfOk result (λ s. step_of s ≡ or_ended stack spine (λ st t. go_on st t true after (TokenKind.Mark mark)) true) }
 {
     if after {
         match operator_of(mark) {
-            Some(operator) => Ok(Step::Next(State {
-                stack,
-                spot: Spot::Due(Hole::After(spine, operator)),
-            })),
+            Some(operator) => Ok(Step::Next(State::Due(stack, Hole::After(spine, operator)))),
             None => stop(alloc, stack, spine, true),
         }
     } else {
@@ -395,49 +272,51 @@ fn mark_follows(
     }
 }
 
-// After an operand and a blank.
+// After an operand.
 #[inline(always)]
-fn follow(
-    alloc: Global,
-    stack: Stack,
-    spine: Spine,
-    token: &Token,
-    opens: bool,
-) -> Result<Step, AllocError>
-    ensures { IfOk result (λ s. step_of s ≡ or_ended stack spine (λ st t. go_on st t true token.now.blank_after token.now.kind) (goes_on (stack_of stack) opens token.now.kind)) }
+fn follow(alloc: Global, stack: Stack, spine: Spine, token: &Token, opens: bool) -> Turn
+    ensures { IfOk result (λ s. step_of s
+        ≡ or_ended stack spine (λ st t. go_on st t token.now.blank_before token.now.blank_after token.now.kind) (goes_on (stack_of stack) (spine_tree spine) opens token.now.kind)) }
 {
     match &token.kind {
-        TokenKind::Mark(mark) => mark_follows(alloc, stack, spine, token.blank_after, *mark),
-        TokenKind::Identifier(_) | TokenKind::Constant(_) | TokenKind::Open => {
-            let hole = Hole::After(spine, BinaryOperator::Concatenation);
-            begin(alloc, stack, hole, token.blank_after, &token.kind)
+        TokenKind::Close | TokenKind::Comma | TokenKind::CloseAngle => {
+            let tree = closed_tree(alloc, spine)?;
+            close(alloc, stack, Some(tree), &token.kind)
         }
-        TokenKind::Close => close(alloc, stack, spine),
-        TokenKind::Comma => comma(alloc, stack, spine),
-        TokenKind::CloseAngle => close_angle(alloc, stack, spine),
         TokenKind::OpenAngle => stop(alloc, stack, spine, opens),
         TokenKind::Part(_) => stop(alloc, stack, spine, false),
+        TokenKind::Mark(mark) => {
+            if token.blank_before {
+                mark_follows(alloc, stack, spine, token.blank_after, *mark)
+            } else {
+                stop(alloc, stack, spine, true)
+            }
+        }
+        TokenKind::Identifier(_) | TokenKind::Constant(_) | TokenKind::Open => {
+            if token.blank_before {
+                let hole = Hole::After(spine, BinaryOperator::Concatenation);
+                begin(alloc, stack, hole, token.blank_after, &token.kind)
+            } else {
+                stop(alloc, stack, spine, true)
+            }
+        }
     }
 }
 
-// After an operand, with no blank between.
 #[inline(always)]
-fn touch(
-    alloc: Global,
-    stack: Stack,
-    spine: Spine,
-    token: &Token,
-    opens: bool,
-) -> Result<Step, AllocError>
-    ensures { IfOk result (λ s. step_of s ≡ or_ended stack spine (λ st t. go_on st t false token.now.blank_after token.now.kind) (goes_on (stack_of stack) opens token.now.kind)) }
+fn after(alloc: Global, alone: bool, stack: Stack, spine: Spine, token: &Token, opens: bool) -> Turn
+    ensures { IfOk result (λ s. step_of s
+        ≡ or_ended stack spine (λ st t. after alone st t token.now.blank_before token.now.blank_after token.now.kind) (onward alone (stack_of stack) (spine_tree spine) opens token.now.kind)) }
 {
-    match &token.kind {
-        TokenKind::Close => close(alloc, stack, spine),
-        TokenKind::Comma => comma(alloc, stack, spine),
-        TokenKind::CloseAngle => close_angle(alloc, stack, spine),
-        TokenKind::OpenAngle => stop(alloc, stack, spine, opens),
-        TokenKind::Part(_) => stop(alloc, stack, spine, false),
-        _ => stop(alloc, stack, spine, true),
+    match stack {
+        Stack::Bottom => {
+            if alone {
+                stop(alloc, Stack::Bottom, spine, opens)
+            } else {
+                follow(alloc, Stack::Bottom, spine, token, opens)
+            }
+        }
+        Stack::Above(frame) => follow(alloc, Stack::Above(frame), spine, token, opens),
     }
 }
 
@@ -459,164 +338,94 @@ fn lack(state: &State, token: &Token, left: usize) -> usize
     requires { left < 9223372036854775808 }
     ensures { result ≡ lack_at (state_of state.now) token.now left }
 {
-    match &state.spot {
-        Spot::Due(hole) => {
+    match state {
+        State::Due(_, hole) => {
             let misfit = variable_due(hole) && !begins_variable(&token.kind);
             if misfit { left } else { 0 }
         }
-        Spot::Prefixed(_, _) => 0,
-        Spot::Named(hole, _) => {
+        State::Named(_, hole, _) => {
             let misfit = variable_due(hole) && opens_bracket(token.blank_before, &token.kind);
             if misfit { left + 1 } else { 0 }
         }
-        Spot::Whole(_) => 0,
-    }
-}
-
-// Whether nothing is taken after an operand there.
-#[inline(always)]
-fn closed(alone: bool, stack: &Stack) -> bool
-    ensures { result ≡ closed alone (stack_of stack.now) }
-{
-    match stack {
-        Stack::Bottom => alone,
-        Stack::Above(frame) => match &**frame {
-            Frame::InGroup(_, _) => false,
-            Frame::InCall(_, _, _, _) => false,
-            Frame::InItem(_, _, _) => false,
-        },
+        State::Prefixed(_, _, _) | State::Whole(_, _) => 0,
     }
 }
 
 #[inline(always)]
-fn after(
-    alloc: Global,
-    alone: bool,
-    stack: Stack,
-    spine: Spine,
-    token: &Token,
-    opens: bool,
-) -> Result<Step, AllocError>
-    ensures { IfOk result (λ s. step_of s ≡ or_ended stack spine (λ st t. after alone st t token.now.blank_before token.now.blank_after token.now.kind) (onward alone (stack_of stack) opens token.now.kind)) }
-{
-    if closed(alone, &stack) {
-        stop(alloc, stack, spine, opens)
-    } else if token.blank_before {
-        follow(alloc, stack, spine, token, opens)
-    } else {
-        touch(alloc, stack, spine, token, opens)
-    }
-}
-
-#[inline(always)]
-fn due(alloc: Global, stack: Stack, hole: Hole, token: &Token) -> Result<Step, AllocError>
+fn due(alloc: Global, stack: Stack, hole: Hole, token: &Token) -> Turn
     ensures { IfOk result (λ s. step_of s ≡ reading false (states.At (stack_of stack) (states.Due (hole_of hole))) token.now) }
 {
     let after = token.blank_after;
     match hole {
-        Hole::Begin => first(alloc, stack, after, &token.kind),
+        Hole::Begin => match &token.kind {
+            TokenKind::Comma | TokenKind::Close => close(alloc, stack, None, &token.kind),
+            _ => begin(alloc, stack, hole, after, &token.kind),
+        },
         Hole::After(spine, operator) => {
             if !token.blank_before {
                 return Ok(Step::End(None, begins(false, &token.kind)));
             }
-            let hole = Hole::After(spine, operator);
-            begin(alloc, stack, hole, after, &token.kind)
+            begin(
+                alloc,
+                stack,
+                Hole::After(spine, operator),
+                after,
+                &token.kind,
+            )
         }
         Hole::Under(unary, rest) => {
             if token.blank_before {
                 return Ok(Step::End(None, begins(false, &token.kind)));
             }
-            let hole = Hole::Under(unary, rest);
-            begin(alloc, stack, hole, after, &token.kind)
+            begin(alloc, stack, Hole::Under(unary, rest), after, &token.kind)
         }
     }
-}
-
-#[inline(always)]
-fn after_prefix(
-    alloc: Global,
-    stack: Stack,
-    hole: Hole,
-    prefix: IdentifierPrefix,
-    before: bool,
-    kind: &TokenKind,
-) -> Result<Step, AllocError>
-    ensures { IfOk result (λ s. step_of s ≡ stepped (after_prefix (stack_of stack) (hole_of hole) prefix before kind.now) None (is_identifier kind.now)) }
-{
-    match kind {
-        TokenKind::Identifier(name) => {
-            if before {
-                Ok(Step::End(None, true))
-            } else {
-                let name = name.characters(alloc)?;
-                whole(alloc, stack, hole, with_prefix(prefix, name))
-            }
-        }
-        _ => Ok(Step::End(None, false)),
-    }
-}
-
-#[inline(always)]
-fn named(
-    alloc: Global,
-    alone: bool,
-    stack: Stack,
-    hole: Hole,
-    name: Characters,
-    token: &Token,
-) -> Result<Step, AllocError>
-    ensures { IfOk result (λ s. step_of s ≡ reading alone (states.At (stack_of stack) (states.Named (hole_of hole) name)) token.now) }
-{
-    if opens_bracket(token.blank_before, &token.kind) {
-        let opened = match &token.kind {
-            TokenKind::OpenAngle => Frame::InItem(name, hole, stack),
-            _ => Frame::InCall(name, Arguments::NoArguments, hole, stack),
-        };
-        let frame = Box::new(alloc, opened)?;
-        return Ok(Step::Next(State {
-            stack: Stack::Above(frame),
-            spot: Spot::Due(Hole::Begin),
-        }));
-    }
-    let spine = fill(alloc, hole, Expression::Identifier(name))?;
-    let opens = opens_bracket(false, &token.kind);
-    after(alloc, alone, stack, spine, token, opens)
 }
 
 // One more token.
 #[inline(always)]
-fn read(alloc: Global, alone: bool, state: State, token: &Token) -> Result<Step, AllocError>
+fn read(alloc: Global, alone: bool, state: State, token: &Token) -> Turn
     ensures { IfOk result (λ s. step_of s ≡ reading alone (state_of state) token.now) }
 {
-    let State { stack, spot } = state;
-    match spot {
-        Spot::Due(hole) => due(alloc, stack, hole, token),
-        Spot::Prefixed(hole, prefix) => after_prefix(
-            alloc,
-            stack,
-            hole,
-            prefix,
-            token.blank_before,
-            &token.kind,
-        ),
-        Spot::Named(hole, name) => named(alloc, alone, stack, hole, name, token),
-        Spot::Whole(spine) => after(alloc, alone, stack, spine, token, false),
+    match state {
+        State::Due(stack, hole) => due(alloc, stack, hole, token),
+        State::Prefixed(stack, hole, prefix) => match &token.kind {
+            TokenKind::Identifier(name) => {
+                if token.blank_before {
+                    return Ok(Step::End(None, true));
+                }
+                let name = name.characters(alloc)?;
+                whole(alloc, stack, hole, with_prefix(prefix, name))
+            }
+            _ => Ok(Step::End(None, false)),
+        },
+        State::Named(stack, hole, name) => {
+            if opens_bracket(token.blank_before, &token.kind) {
+                let held = match &token.kind {
+                    TokenKind::OpenAngle => Bracket::Item(name),
+                    _ => Bracket::Call(name, Arguments::NoArguments),
+                };
+                return open(alloc, held, hole, stack);
+            }
+            let opens = opens_bracket(false, &token.kind);
+            let spine = fill(alloc, hole, Expression::Identifier(name))?;
+            after(alloc, alone, stack, spine, token, opens)
+        }
+        State::Whole(stack, spine) => after(alloc, alone, stack, spine, token, false),
     }
 }
 
 // The tree at the end of the tokens, where one is complete.
-fn finish(alloc: Global, state: State) -> Result<Option<Expression>, AllocError>
+fn finish(alloc: Global, state: State) -> MaybeTree
     ensures { IfOk result (λ t. expressions_of t ≡ result_of (state_of state)) }
 {
-    let State { stack, spot } = state;
-    match spot {
-        Spot::Due(_) => Ok(None),
-        Spot::Prefixed(_, _) => Ok(None),
-        Spot::Named(hole, name) => {
+    match state {
+        State::Due(_, _) | State::Prefixed(_, _, _) => Ok(None),
+        State::Named(stack, hole, name) => {
             let spine = fill(alloc, hole, Expression::Identifier(name))?;
             complete(alloc, stack, spine)
         }
-        Spot::Whole(spine) => complete(alloc, stack, spine),
+        State::Whole(stack, spine) => complete(alloc, stack, spine),
     }
 }
 
@@ -756,7 +565,8 @@ fn operands_follow<'a, 't>(
     tokens: &'a [Token<'t>],
 ) -> Result<Run<'a, 't>, AllocError>
     requires { is_element first ≡ true }
-    ensures { IfOk result (λ run. told false (states.At states.Bottom (states.Whole (expression_of first))) tokens.now ≡ told false (states.At states.Bottom (states.Whole (spine_tree run.spine))) run.rest.now) }
+    ensures { IfOk result (λ run. told false (states.At states.Bottom (states.Whole (expression_of first))) tokens.now
+        ≡ told false (states.At states.Bottom (states.Whole (spine_tree run.spine))) run.rest.now) }
 {
     let mut pending = Vec::new(alloc);
     let mut last = first;
@@ -846,11 +656,7 @@ fn read_behind<'a, 't>(
         return Ok(ended_at(Some(first), tokens, 0, 0, false));
     }
     let Run { spine, rest } = operands_follow(alloc, first, tokens)?;
-    let begun = State {
-        stack: Stack::Bottom,
-        spot: Spot::Whole(spine),
-    };
-    read_on(alloc, false, begun, rest)
+    read_on(alloc, false, State::Whole(Stack::Bottom, spine), rest)
 }
 
 /// Reads one expression from the tokens, or where it stands `alone` one element.
@@ -873,9 +679,5 @@ pub fn read_expression<'a, 't>(
             return read_behind(alloc, alone, first, behind);
         }
     }
-    let begun = State {
-        stack: Stack::Bottom,
-        spot: Spot::Due(Hole::Begin),
-    };
-    read_on(alloc, alone, begun, tokens)
+    read_on(alloc, alone, State::Due(Stack::Bottom, Hole::Begin), tokens)
 }

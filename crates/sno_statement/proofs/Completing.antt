@@ -1,39 +1,32 @@
 -- A statement that the tokens spell is the one that they are read as, with the leftmost of the places where it lacks a variable.
-use Rattle.std.proofs.Common.{arith, ◌≡◌, ℕ, suc, ◌+◌, length, List, [], ◌∷◌, ◌++◌, refl, sym, ap, ◌∙◌, subst}
-use Rattle.std.specs.Prelude.{Bool, true, false, not, nat_le, Option, Some, None, is_some, Result, Ok, Err, ◌||◌, if◌then◌else◌}
-use Rattle.std.proofs.lemmas.{List.{length-append, append_assoc}, Bool.Decides.{nat_tests}}
-use Rattle.std.proofs.Common.{inl, inr}
-use Rattle.sno_lexer.specs.declared.token.{Mark.{Mark}, Mark.TheVariants.{Dollar}, Outcome.{Outcome}, Outcome.TheVariants.{Success, Failure}, Token.{Token}}
+use Rattle.std.proofs.Common.{arith, ◌≡◌, ℕ, suc, ◌+◌, length, List, [], ◌∷◌, ◌++◌, refl, sym, ap, ◌∙◌, subst, inl, inr}
+use Rattle.std.{specs.Prelude.{Bool, true, false, not, Option, Some, None, is_some, Result, Ok, if◌then◌else◌}, proofs.lemmas.List.{length-append, append_assoc}, proofs.lemmas.Bool.Decides.{nat_tests}}
+use Rattle.sno_lexer.{specs.declared.token.Outcome.{Outcome}, specs.declared.token.Outcome.TheVariants.{Success, Failure}, specs.declared.token.Token.{Token}}
 use Rattle.sno_lexer.specs.declared.token.Part.TheVariants.{Equals, Colon}
 use Rattle.sno_lexer.specs.declared.token.TokenKind.TheVariants as token
-use Rattle.sno_expression.specs.declared.tree.BinaryOperator.{BinaryOperator, TheVariants.{Concatenation}}
-use Rattle.sno_expression.specs.{declared.tree.UnaryOperator.TheVariants.{Indirect}, Spelling.{spaced, Joins, Parts, SpellsTo, SpellTo}}
-use Rattle.sno_expression.specs.{Lacking.{lacking, lacking_among}, Marks.{operand_is_variable}, inner.Reading.{Stops}}
-use Rattle.sno_expression.{specs.inner.Telling.{most, begins, telling}, proofs.Feeding.{headed, complete, counted}}
-use Rattle.sno_expression.proofs.{Lacks.{lacks, lacks_append, lacks_closed, raised}, Loop.{most_most, most_none, none_most}}
-use Rattle.sno_expression.specs.declared.tree.UnaryOperator.TheVariants as unary
+use Rattle.sno_expression.{specs.declared.tree.BinaryOperator.{BinaryOperator}, specs.declared.tree.BinaryOperator.TheVariants.{Concatenation}, specs.declared.tree.UnaryOperator.TheVariants.{Indirect}}
+use Rattle.sno_expression.{specs.Spelling.{spaced, Joins, Parts, SpellsTo, SpellTo}, specs.Lacking.{lacking, lacking_among}, specs.Marks.{operand_is_variable}, specs.inner.Reading.{Stops}}
+use Rattle.sno_expression.{specs.inner.Telling.{most, with_lack, telling}, proofs.Feeding.{headed, complete, counted}, proofs.Lacks.{lacks, lacks_append, lacks_closed, raised}}
+use Rattle.sno_expression.proofs.Loop.{most_most, most_none, none_most}
 use Rattle.sno_expression.specs.Expressions.{Expression, Arguments, Identifier, Constant, Keyword, Unevaluated, Group, Call, TableItem, Unary, Binary, NoArguments, Omitted, Argument, IsOperand, is_variable}
-use Rattle.sno_statement.specs.{declared.parser.Refusal.{Refusal}, declared.role.Role.{Role}, Spelling.{TargetTo, OutcomeTo, LeadsTo, GotoTo, ObjectTo, Spells}}
+use Rattle.sno_expression.specs.declared.tree.UnaryOperator.TheVariants as unary
+use Rattle.sno_statement.{specs.declared.parser.Refusal.{Refusal}, specs.Spelling.{TargetTo, OutcomeTo, LeadsTo, GotoTo, ObjectTo, Spells}}
 use Rattle.sno_statement.specs.Lacking.{lacking_object, lacking_body, lacking_target, lacking_goto, named_first, lacking_in}
-use Rattle.sno_statement.proofs.{Roles.{head_role, stops_blank, dollar, no_colon}, Shorthand.{PatternTo, ColonTo, is_wrong, lacking_pattern}}
+use Rattle.sno_statement.proofs.Heads.{stops_blank, dollar, no_colon, PatternTo, ColonTo, is_wrong, lacking_pattern}
 use Rattle.sno_statement.specs.Statements.{Target, To, Computed, Goto, NoGoto, Always, OnSuccess, OnFailure, OnBoth, Object, NoObject, NullObject, ValueObject, Body, NoBody, Does, Statement, Says, may_be_set}
-use Rattle.sno_statement.specs.inner.Parsing.{stands, blamed, Aim, Aimed, computed, inside, target_in, Way, Leads, always, both, next, chosen, goto_in, Stated, States, stated, going, is_colon, ends_part, ending, giving, by_object, object_in, set, pattern_then, matching, by_subject, subject_then, acting, by_first, statement_in}
+use Rattle.sno_statement.specs.inner.Parsing.{Aim, Aimed, computed, element, target_in, Stated, States, stated, last, pair, next, goto_in, ending, giving, object_in, set, parted, matching, subject_then, acting, statement_in}
 
 -- COUNTS
 
 -- two lists of marks, one behind the other
 chained : (cs bs : List Bool) (i l n : ℕ) → l ≡ length bs + n → most (most i (lacks cs l)) (lacks bs n) ≡ most i (lacks (cs ++ bs) n)
-chained cs bs i l n e =
-    most_most i (lacks cs l) (lacks bs n)
-    ∙ (ap (λ (k : ℕ). most i (most (lacks cs k) (lacks bs n))) e ∙ ap (most i) (lacks_append cs bs n))
+chained cs bs i l n e = rw (most_most i (lacks cs l) (lacks bs n), e, lacks_append cs bs n)
 
 target_counted : (t : Target) (ts rest : List Token) → TargetTo t ts rest → length ts ≡ length (lacking_target t) + length rest
 target_counted (To l) ts rest s = let e = ap length s.6 in omega (arith, e)
 target_counted (Computed t) ts rest s =
-    let e = ap length s.6 in
     let c = counted (Unary Indirect t) false s.3 s.0 (spaced s.4 s.5 token.Close ∷ rest) s.7 in
-    let d = length-append (lacking false (Unary Indirect t)) (false ∷ []) in
-    omega (arith, e, c, d)
+    omega (arith, ap length s.6, c, length-append (lacking false (Unary Indirect t)) (false ∷ []))
 
 outcome_counted : (o : Outcome) (t : Target) (ts rest : List Token) → OutcomeTo o t ts rest → length ts ≡ suc (length (lacking_target t)) + length rest
 outcome_counted o t ts rest s = let e = ap length s.3 in let c = target_counted t s.0 rest s.4 in omega (arith, e, c)
@@ -42,8 +35,7 @@ both_counted : (o p : Outcome) (t u : Target) (ts m : List Token) → OutcomeTo 
 both_counted o p t u ts m x y =
     let c = outcome_counted o t ts m x in
     let d = outcome_counted p u m [] y in
-    let e = length-append (lacking_target t) (false ∷ lacking_target u) in
-    omega (arith, c, d, e)
+    omega (arith, c, d, length-append (lacking_target t) (false ∷ lacking_target u))
 
 leads_counted : (g : Goto) (ts : List Token) → LeadsTo g ts → suc (length ts) ≡ length (lacking_goto (named_first ts) g)
 leads_counted NoGoto ts s = absurd s
@@ -55,16 +47,24 @@ leads_counted (OnBoth s f) ts (inl p) =
 leads_counted (OnBoth s f) ts (inr p) =
     both_counted Failure Success f s ts p.0 p.1 p.2 ∙ ap (λ (o : Outcome). length (lacking_goto o (OnBoth s f))) (sym (ap named_first p.1.3))
 
-colon_counted : (g : Goto) (ts : List Token) → ColonTo g ts → length ts ≡ length (lacking_goto (named_first ts) g)
-colon_counted g ts s =
-    ap length s.2 ∙ (leads_counted g s.0 s.3 ∙ ap (λ (o : Outcome). length (lacking_goto o g)) (sym (ap named_first s.2)))
+-- no goto, or one behind its colon
+data Ended (g : Goto) (ts : List Token) : Type 0 where
+  Nowhere : g ≡ NoGoto → ts ≡ [] → Ended g ts
+  Leading : ColonTo g ts → Ended g ts
+
+ended : (g : Goto) (ts : List Token) → GotoTo g ts → Ended g ts
+ended NoGoto ts s = Nowhere refl s
+ended (Always t) ts s = Leading s
+ended (OnSuccess t) ts s = Leading s
+ended (OnFailure t) ts s = Leading s
+ended (OnBoth t u) ts s = Leading s
 
 goto_counted : (g : Goto) (ts : List Token) → GotoTo g ts → length ts ≡ length (lacking_goto (named_first ts) g)
-goto_counted NoGoto ts s = ap length s
-goto_counted (Always t) ts s = colon_counted (Always t) ts s
-goto_counted (OnSuccess t) ts s = colon_counted (OnSuccess t) ts s
-goto_counted (OnFailure t) ts s = colon_counted (OnFailure t) ts s
-goto_counted (OnBoth t u) ts s = colon_counted (OnBoth t u) ts s
+goto_counted g ts s = at (ended g ts s)
+  where
+    at : Ended g ts → length ts ≡ length (lacking_goto (named_first ts) g)
+    at (Nowhere e d) = rw (e, d)
+    at (Leading p) = rw p.2 (leads_counted g p.0 p.3)
 
 object_counted : (o : Object) (ts m : List Token) → ObjectTo o ts m → length ts ≡ length (lacking_object o) + length m
 object_counted NoObject ts m s = let e = ap length s in omega (arith, e)
@@ -77,97 +77,84 @@ pattern_counted (Some t) ts m s = counted t false true ts m s
 
 -- GOTOS
 
-computed_inside : (n : ℕ) (ts m : List Token) (c : Bool) (k : Mark) → k ≡ Dollar → ts ≡ spaced c false (token.Mark k) ∷ m → inside n ts ≡ computed n (telling true ts)
-computed_inside n ts m c k e d =
-    let f : ts ≡ spaced c false (token.Mark Dollar) ∷ m = d ∙ ap (λ (x : Mark). spaced c false (token.Mark x) ∷ m) e in
-    rw f
-
 abbrev aimed : Target → ℕ → List Token → Result Aim Refusal
 aimed t n rest = Ok (Aimed t (most n (lacks (lacking_target t) (length rest))) rest)
 
+element_read : (t : Expression) (n : ℕ) (ts rest : List Token) → SpellsTo false t ts rest → element n ts ≡ computed (with_lack n (telling true ts))
+element_read t n ts rest s = let h = headed t false ts rest s in rw (h.is, h.blank)
+
 target_read : (t : Target) (n : ℕ) (ts rest : List Token) → TargetTo t ts rest → target_in n ts ≡ aimed t n rest
-target_read (To l) n ts rest s = ap (target_in n) s.6 ∙ ap (λ (x : ℕ). Ok (Aimed (To l) x rest)) (sym (most_none n))
+target_read (To l) n ts rest s = rw (s.6, most_none n)
 target_read (Computed t) n ts rest s =
     let p = s.7 in
-    let x = complete true (Unary Indirect t) s.3 s.0 (spaced s.4 s.5 token.Close ∷ rest) tt p tt in
-    ap (target_in n) s.6
-    ∙ (computed_inside n s.0 p.0 s.3 p.1 (dollar p.1 p.2) p.3
-    ∙ (ap (computed n) x.1 ∙ ap (λ (l : ℕ). Ok (Aimed (Computed t) (most n l) rest)) (lacks_closed (lacking false (Unary Indirect t)) (length rest))))
+    let k = spaced s.4 s.5 token.Close ∷ rest in
+    let x = complete true t false p.0 k p.5 p.4 refl in
+    rw (s.6, p.3, dollar p.1 p.2, element_read t n p.0 k p.4, x.1)
+    (ap (λ (l : ℕ). Ok (Aimed (Computed t) (most n l) rest)) (lacks_closed (lacking false t) (length rest)))
 
 -- a target alone is read as one
-alone_read : (t : Target) (n : ℕ) (ts rest : List Token) → TargetTo t ts rest → goto_in n ts ≡ always (target_in n ts)
-alone_read (To l) n ts rest s = rw s.6
-alone_read (Computed t) n ts rest s = rw s.6
+alone_read : (b : Body) (t : Target) (n : ℕ) (ts rest : List Token) → TargetTo t ts rest → goto_in b n ts ≡ last b Always (target_in n ts)
+alone_read b (To l) n ts rest s = rw s.6
+alone_read b (Computed t) n ts rest s = rw s.6
 
-abbrev led : Goto → ℕ → List Bool → Result Way Refusal
-led g n bs = Ok (Leads g (most n (lacks bs 0)))
+abbrev said : Body → Goto → ℕ → List Bool → Result Stated Refusal
+said b g n bs = Ok (States (Says b g) (most n (lacks bs 0)))
 
-outcome_read : (o : Outcome) (t : Target) (n : ℕ) (ts rest : List Token) → OutcomeTo o t ts rest → goto_in n ts ≡ next o t (most n (lacks (lacking_target t) (length rest))) rest
-outcome_read o t n ts rest s = ap (goto_in n) s.3 ∙ ap (chosen o) (target_read t n s.0 rest s.4)
+outcome_read : (b : Body) (o : Outcome) (t : Target) (n : ℕ) (ts rest : List Token) → OutcomeTo o t ts rest
+    → goto_in b n ts ≡ next b o t (most n (lacks (lacking_target t) (length rest))) rest
+outcome_read b o t n ts rest s = rw (s.3, target_read t n s.0 rest s.4)
 
-success_then : (s f : Target) (n : ℕ) (ts : List Token) → OutcomeTo Failure f ts [] → next Success s n ts ≡ led (OnBoth s f) n (false ∷ lacking_target f)
-success_then s f n ts p = ap (next Success s n) p.3 ∙ ap (both Success s) (target_read f n p.0 [] p.4)
+abbrev other : Outcome → Outcome
+other Success = Failure
+other Failure = Success
 
-failure_then : (s f : Target) (n : ℕ) (ts : List Token) → OutcomeTo Success s ts [] → next Failure f n ts ≡ led (OnBoth s f) n (false ∷ lacking_target s)
-failure_then s f n ts p = ap (next Failure f n) p.3 ∙ ap (both Failure f) (target_read s n p.0 [] p.4)
+second_read : (b : Body) (o : Outcome) (t u : Target) (n : ℕ) (ts : List Token) → OutcomeTo (other o) u ts [] → next b o t n ts ≡ said b (pair o t u) n (false ∷ lacking_target u)
+second_read b Success t u n ts p = rw (p.3, target_read u n p.0 [] p.4)
+second_read b Failure t u n ts p = rw (p.3, target_read u n p.0 [] p.4)
 
 -- the count behind the second target
 second_count : (o : Outcome) (t u : Target) (n : ℕ) (m : List Token) → OutcomeTo o u m [] → most (most n (lacks (lacking_target t) (length m))) (lacks (false ∷ lacking_target u) 0)
     ≡ most n (lacks (false ∷ false ∷ (lacking_target t ++ false ∷ lacking_target u)) 0)
-second_count o t u n m x =
-    let c = outcome_counted o u m [] x in
-    chained (lacking_target t) (false ∷ lacking_target u) n (length m) 0 (omega (arith, c))
+second_count o t u n m x = let c = outcome_counted o u m [] x in chained (lacking_target t) (false ∷ lacking_target u) n (length m) 0 (omega (arith, c))
 
-both_read : (s f : Target) (n : ℕ) (ts : List Token) → LeadsTo (OnBoth s f) ts → goto_in n ts ≡ led (OnBoth s f) n (lacking_goto (named_first ts) (OnBoth s f))
-both_read s f n ts (inl p) =
-    outcome_read Success s n ts p.0 p.1
-    ∙ (success_then s f (most n (lacks (lacking_target s) (length p.0))) p.0 p.2
-    ∙ (ap (λ (l : ℕ). Ok (Leads (OnBoth s f) l)) (second_count Failure s f n p.0 p.2)
-    ∙ ap (λ (o : Outcome). led (OnBoth s f) n (lacking_goto o (OnBoth s f))) (sym (ap named_first p.1.3))))
-both_read s f n ts (inr p) =
-    outcome_read Failure f n ts p.0 p.1
-    ∙ (failure_then s f (most n (lacks (lacking_target f) (length p.0))) p.0 p.2
-    ∙ (ap (λ (l : ℕ). Ok (Leads (OnBoth s f) l)) (second_count Success f s n p.0 p.2)
-    ∙ ap (λ (o : Outcome). led (OnBoth s f) n (lacking_goto o (OnBoth s f))) (sym (ap named_first p.1.3))))
+both_read : (b : Body) (o : Outcome) (t u : Target) (n : ℕ) (ts : List Token) → (m : List Token) × OutcomeTo o t ts m × OutcomeTo (other o) u m []
+    → goto_in b n ts ≡ said b (pair o t u) n (lacking_goto (named_first ts) (pair o t u))
+both_read b o t u n ts p = outcome_read b o t n ts p.0 p.1
+    ∙ (second_read b o t u (most n (lacks (lacking_target t) (length p.0))) p.0 p.2
+    ∙ (ap (λ (l : ℕ). Ok (States (Says b (pair o t u)) l)) (second_count (other o) t u n p.0 p.2 ∙ at o)
+    ∙ ap (λ (x : Outcome). said b (pair o t u) n (lacking_goto x (pair o t u))) (sym (ap named_first p.1.3))))
+  where
+    at : (o : Outcome) → most n (lacks (false ∷ false ∷ (lacking_target t ++ false ∷ lacking_target u)) 0) ≡ most n (lacks (lacking_goto o (pair o t u)) 0)
+    at Success = refl
+    at Failure = refl
 
-goto_read : (g : Goto) (n : ℕ) (ts : List Token) → LeadsTo g ts → goto_in n ts ≡ led g n (lacking_goto (named_first ts) g)
-goto_read NoGoto n ts s = absurd s
-goto_read (Always t) n ts s = alone_read t n ts [] s ∙ ap always (target_read t n ts [] s)
-goto_read (OnSuccess t) n ts s = outcome_read Success t n ts [] s
-goto_read (OnFailure t) n ts s = outcome_read Failure t n ts [] s
-goto_read (OnBoth s f) n ts p = both_read s f n ts p
+goto_read : (b : Body) (g : Goto) (n : ℕ) (ts : List Token) → LeadsTo g ts → goto_in b n ts ≡ said b g n (lacking_goto (named_first ts) g)
+goto_read b NoGoto n ts s = absurd s
+goto_read b (Always t) n ts s = rw (alone_read b t n ts [] s, target_read t n ts [] s)
+goto_read b (OnSuccess t) n ts s = outcome_read b Success t n ts [] s
+goto_read b (OnFailure t) n ts s = outcome_read b Failure t n ts [] s
+goto_read b (OnBoth s f) n ts (inl p) = both_read b Success s f n ts p
+goto_read b (OnBoth s f) n ts (inr p) = both_read b Failure f s n ts p
 
 -- how a reading goes on that has a body so far
 record GoesOn (on : List Token → Result Stated Refusal) (b : Body) : Type 0 where
   place : ℕ
   ends : on [] ≡ Ok (States (Says b NoGoto) place)
-  goes : (c : Bool) (ts : List Token) → on (spaced true c (token.Part Colon) ∷ ts) ≡ going b (goto_in place ts)
-
-abbrev said : Body → Goto → ℕ → List Bool → Result Stated Refusal
-said b g n bs = Ok (States (Says b g) (most n (lacks bs 0)))
-
-colon_read : (on : List Token → Result Stated Refusal) (b : Body) (g : Goto) (ts : List Token) (h : GoesOn on b) → ColonTo g ts → on ts ≡ said b g h.place (lacking_goto (named_first ts) g)
-colon_read on b g ts h s =
-    ap on s.2
-    ∙ (h.goes s.1 s.0
-    ∙ (ap (going b) (goto_read g h.place s.0 s.3) ∙ ap (λ (o : Outcome). said b g h.place (lacking_goto o g)) (sym (ap named_first s.2))))
+  goes : (c : Bool) (ts : List Token) → on (spaced true c (token.Part Colon) ∷ ts) ≡ goto_in b place ts
 
 last_read : (on : List Token → Result Stated Refusal) (b : Body) (g : Goto) (ts : List Token) (h : GoesOn on b) → GotoTo g ts → on ts ≡ said b g h.place (lacking_goto (named_first ts) g)
-last_read on b NoGoto ts h s = ap on s ∙ (h.ends ∙ ap (λ (n : ℕ). Ok (States (Says b NoGoto) n)) (sym (most_none h.place)))
-last_read on b (Always t) ts h s = colon_read on b (Always t) ts h s
-last_read on b (OnSuccess t) ts h s = colon_read on b (OnSuccess t) ts h s
-last_read on b (OnFailure t) ts h s = colon_read on b (OnFailure t) ts h s
-last_read on b (OnBoth t u) ts h s = colon_read on b (OnBoth t u) ts h s
-
-colon_stops : (alone : Bool) (g : Goto) (ts : List Token) → ColonTo g ts → Stops alone ts
-colon_stops alone g ts s = subst (Stops alone) (sym s.2) tt
+last_read on b g ts h s = at (ended g ts s)
+  where
+    at : Ended g ts → on ts ≡ said b g h.place (lacking_goto (named_first ts) g)
+    at (Nowhere e d) = rw (e, d, h.ends, most_none h.place)
+    at (Leading p) = rw (p.2, h.goes p.1 p.0) (goto_read b g h.place p.0 p.3)
 
 pub goto_stops : (alone : Bool) (g : Goto) (ts : List Token) → GotoTo g ts → Stops alone ts
-goto_stops alone NoGoto ts s = subst (Stops alone) (sym s) tt
-goto_stops alone (Always t) ts s = colon_stops alone (Always t) ts s
-goto_stops alone (OnSuccess t) ts s = colon_stops alone (OnSuccess t) ts s
-goto_stops alone (OnFailure t) ts s = colon_stops alone (OnFailure t) ts s
-goto_stops alone (OnBoth t u) ts s = colon_stops alone (OnBoth t u) ts s
+goto_stops alone g ts s = at (ended g ts s)
+  where
+    at : Ended g ts → Stops alone ts
+    at (Nowhere e d) = subst (Stops alone) (sym d) tt
+    at (Leading p) = subst (Stops alone) (sym p.2) tt
 
 pub object_stops : (alone : Bool) (o : Object) (g : Goto) (ts m : List Token) → ObjectTo o ts m → GotoTo g m → Stops alone ts
 object_stops alone NoObject g ts m s e = subst (Stops alone) (sym s) (goto_stops alone g m e)
@@ -179,33 +166,16 @@ pattern_stops None o g ts m n s d e = subst (Stops true) (sym s) (object_stops t
 pattern_stops (Some p) o g ts m n s d e = stops_blank p ts m s
 
 -- behind `=` a blank leads to the object
-giving_read : (s : Expression) (p : Option Expression) (n : ℕ) (t : Expression) (ts rest : List Token) → SpellsTo true t ts rest → object_in s p n ts ≡ giving s p n (telling false ts)
-giving_read s p n t ts rest q =
-    let h = headed t true ts rest q in
-    ap (object_in s p n) h.is
-    ∙ (ap (λ (r : Role). by_object r s p n h.head h.tail) (head_role true ts h)
-    ∙ ap (λ (x : List Token). giving s p n (telling false x)) (sym h.is))
+giving_read : (s : Expression) (p : Option Expression) (n : ℕ) (t : Expression) (ts rest : List Token) → SpellsTo true t ts rest
+    → object_in s p n ts ≡ giving s p (with_lack n (telling false ts))
+giving_read s p n t ts rest q = let h = headed t true ts rest q in rw (h.is, h.blank, no_colon h.head.blank_after h.head.kind h.opens)
 
-matching_read : (z : ℕ) (w : Bool) (s : Expression) (n : ℕ) (t : Expression) (ts rest : List Token) → SpellsTo true t ts rest → subject_then z w s n ts ≡ matching z s n (telling false ts)
-matching_read z w s n t ts rest q =
-    let h = headed t true ts rest q in
-    let b = w || (begins false h.head.kind || ends_part h.head.kind) in
-    ap (subject_then z w s n) h.is
-    ∙ (ap (λ (r : Role). by_subject r z b s n h.head h.tail) (head_role true ts h)
-    ∙ (ap (λ (c : Bool). if c then matching z s n (telling false (h.head ∷ h.tail)) else Err (blamed b n (h.head ∷ h.tail))) h.opens
-    ∙ ap (λ (x : List Token). matching z s n (telling false x)) (sym h.is)))
+matching_read : (z : ℕ) (w : Bool) (s : Expression) (n : ℕ) (t : Expression) (ts rest : List Token) → SpellsTo true t ts rest
+    → subject_then z w s n ts ≡ matching z s (with_lack n (telling false ts))
+matching_read z w s n t ts rest q = let h = headed t true ts rest q in rw (h.is, h.blank, h.opens)
 
-begun : (b : Bool) (t : Token) (ts : List Token) → is_colon t.kind ≡ false → by_first (stands b) (length (t ∷ ts)) t ts ≡ acting (length (t ∷ ts)) (telling true (t ∷ ts))
-begun true t ts e = refl
-begun false t ts e = ap (λ (c : Bool). if c then Err (blamed true 0 (t ∷ ts)) else acting (length (t ∷ ts)) (telling true (t ∷ ts))) e
-
-acting_read : (t : Expression) (b : Bool) (ts rest : List Token) → SpellsTo b t ts rest → statement_in ts ≡ acting (length ts) (telling true ts)
-acting_read t b ts rest q =
-    let h = headed t b ts rest q in
-    ap statement_in h.is
-    ∙ (ap (λ (r : Role). by_first r (length (h.head ∷ h.tail)) h.head h.tail) (head_role b ts h)
-    ∙ (begun b h.head h.tail (no_colon h.head.blank_after h.head.kind h.opens)
-    ∙ ap (λ (x : List Token). acting (length x) (telling true x)) (sym h.is)))
+acting_read : (t : Expression) (b : Bool) (ts rest : List Token) → SpellsTo b t ts rest → statement_in ts ≡ acting (length ts) (with_lack 0 (telling true ts))
+acting_read t b ts rest q = let h = headed t b ts rest q in rw (h.is, no_colon h.head.blank_after h.head.kind h.opens)
 
 on_ending : (w : Bool) (b : Body) (n : ℕ) → GoesOn (ending w b n) b
 on_ending w b n = record { place = n; ends = refl; goes = λ c ts. refl }
@@ -230,10 +200,7 @@ object_read on s p i (ValueObject t) g ts m h q d e =
     let b = Does s p (ValueObject t) in
     let j = most i (lacks (lacking false t) (length m)) in
     let c = goto_counted g m e in
-    ap on d.1
-    ∙ (q d.0
-    ∙ (giving_read s p i t d.0 m d.2
-    ∙ (ap (giving s p i) y.1
+    ap on d.1 ∙ (q d.0 ∙ (giving_read s p i t d.0 m d.2 ∙ (ap (λ x. giving s p (with_lack i x)) y.1
     ∙ (last_read (ending y.0 b j) b g m (on_ending y.0 b j) e
     ∙ ap (λ (l : ℕ). Ok (States (Says b g) l)) (chained (lacking false t) (lacking_goto (named_first m) g) i (length m) 0 (omega (arith, c)))))))
 
@@ -246,23 +213,13 @@ turned true z n = refl
 turned false z n = refl
 
 most_swap : (a b c : ℕ) → most (most a b) c ≡ most (most a c) b
-most_swap a b c = most_most a b c ∙ (ap (most a) (most_turn b c) ∙ sym (most_most a c b))
-  where
-    most_turn : (a b : ℕ) → most a b ≡ most b a
-    most_turn a b = at (nat_le a b) (nat_le b a) refl refl
-      where
-        at : (x y : Bool) → nat_le a b ≡ x → nat_le b a ≡ y → (if x then b else a) ≡ (if y then a else b)
-        at true true e d = grind (arith, nat_tests, e, d)
-        at true false e d = refl
-        at false true e d = refl
-        at false false e d = grind (arith, nat_tests, e, d)
+most_swap a b c = grind (arith, nat_tests)
 
 behind_counted : (o : Object) (g : Goto) (m n : List Token) → ObjectTo o m n → GotoTo g n → length m ≡ length (lacking_object o ++ lacking_goto (named_first n) g)
 behind_counted o g m n d e =
     let a = object_counted o m n d in
     let b = goto_counted g n e in
-    let c = length-append (lacking_object o) (lacking_goto (named_first n) g) in
-    omega (arith, a, b, c)
+    omega (arith, a, b, length-append (lacking_object o) (lacking_goto (named_first n) g))
 
 moved : (u : Bool) (z i : ℕ) (cs bs : List Bool) (l : ℕ) → l ≡ length bs
     → most (first_or u z (most i (lacks cs l))) (lacks bs 0) ≡ most (first_or u z i) (lacks (cs ++ bs) 0)
@@ -278,18 +235,16 @@ pattern_read : (z : ℕ) (w : Bool) (s : Expression) (i : ℕ) (p : Option Expre
     → PatternTo p ts m → ObjectTo o m n → GotoTo g n
     → subject_then z w s i ts ≡ said (Does s p o) g (first_or (is_wrong s p o) z i) (lacking_pattern p ++ (lacking_object o ++ lacking_goto (named_first n) g))
 pattern_read z w s i None o g ts m n c d e =
-    let on = subject_then z w s i in
-    ap on c
-    ∙ (object_read on s None (set z s false i) o g m n (record { place = i; ends = refl; goes = λ b ts. refl }) (λ k. refl) d e
+    ap (subject_then z w s i) c
+    ∙ (object_read (subject_then z w s i) s None (set z s false i) o g m n (record { place = i; ends = refl; goes = λ b ts. refl }) (λ k. refl) d e
     ∙ ap (λ (x : ℕ). said (Does s None o) g x (lacking_object o ++ lacking_goto (named_first n) g)) (used_set s None o z i))
 pattern_read z w s i (Some p) o g ts m n c d e =
     let y = complete false p true ts m tt c (object_stops false o g m n d e) in
     let j = most i (lacks (lacking false p) (length m)) in
     let bs = lacking_object o ++ lacking_goto (named_first n) g in
     let b = Does s (Some p) o in
-    matching_read z w s i p ts m c
-    ∙ (ap (matching z s i) y.1
-    ∙ (object_read (pattern_then z y.0 s p j) s (Some p) (set z s true j) o g m n (record { place = j; ends = refl; goes = λ b ts. refl }) (λ k. refl) d e
+    matching_read z w s i p ts m c ∙ (ap (λ x. matching z s (with_lack i x)) y.1
+    ∙ (object_read (parted z y.0 s (Some p) j) s (Some p) (set z s true j) o g m n (record { place = j; ends = refl; goes = λ b ts. refl }) (λ k. refl) d e
     ∙ (ap (λ (x : ℕ). said b g x bs) (used_set s (Some p) o z j)
     ∙ ap (λ (l : ℕ). Ok (States (Says b g) l)) (moved (is_wrong s (Some p) o) z i (lacking false p) bs (length m) (behind_counted o g m n d e)))))
 
@@ -360,11 +315,8 @@ object_names (ValueObject t) m n s = ap named_first s.1 ∙ tree_names t true s.
 
 -- a statement that spells the tokens is read from them, and what it lacks
 pub statement_read : (s : Statement) (ts : List Token) → Spells s ts → statement_in ts ≡ Ok (States s (lacks (lacking_in ts s) 0))
-statement_read (Says NoBody g) ts q =
-    ap statement_in q.1
-    ∙ (last_read statement_in NoBody g q.0 (record { place = 0; ends = refl; goes = λ b ts. refl }) q.2
-    ∙ (ap (λ (l : ℕ). Ok (States (Says NoBody g) l)) (none_most (lacks (lacking_goto (named_first q.0) g) 0))
-    ∙ ap (λ (m : List Token). Ok (States (Says NoBody g) (lacks (lacking_goto (named_first m) g) 0))) (sym q.1)))
+statement_read (Says NoBody g) ts q = rw q.1 (last_read statement_in NoBody g q.0 (record { place = 0; ends = refl; goes = λ b ts. refl }) q.2
+    ∙ ap (λ (l : ℕ). Ok (States (Says NoBody g) l)) (none_most (lacks (lacking_goto (named_first q.0) g) 0)))
 statement_read (Says (Does s p o) g) ts q =
     let b = q.1 in
     let y = complete true s b.2 ts b.0 b.6 b.3 (pattern_stops p o g b.0 b.1 q.0 b.4 b.5 q.2) in
@@ -376,7 +328,8 @@ statement_read (Says (Does s p o) g) ts q =
     let d = behind_counted o g b.1 q.0 b.5 q.2 in
     let e = length-append (lacking_pattern p) (lacking_object o ++ gs) in
     acting_read s b.2 ts b.0 b.3
-    ∙ (ap (acting (length ts)) y.1
+    ∙ (ap (λ x. acting (length ts) (with_lack 0 x)) y.1
+    ∙ (ap (λ (k : ℕ). subject_then (length ts) y.0 s k b.0) (none_most n)
     ∙ (pattern_read (length ts) y.0 s n p o g b.0 b.1 q.0 b.4 b.5 q.2
     ∙ (ap (λ (z : ℕ). said (Does s p o) g (first_or u z n) bs) (counted s false b.2 ts b.0 b.3)
     ∙ (ap (λ (x : ℕ). said (Does s p o) g x bs) (lifted s u (length b.0) b.6 (wrong_variable s p o))
@@ -386,14 +339,14 @@ statement_read (Says (Does s p o) g) ts q =
     ∙ (ap (λ (l : List Bool). Ok (States (Says (Does s p o) g) (lacks l 0)))
     (ap (λ (l : List Bool). lacking u s ++ l) (sym (append_assoc (lacking_pattern p) (lacking_object o) gs)) ∙ sym (append_assoc (lacking u s) (lacking_pattern p ++ lacking_object o) gs))
     ∙ ap (λ (x : Outcome). Ok (States (Says (Does s p o) g) (lacks (lacking_body (Does s p o) ++ lacking_goto x g) 0)))
-    (sym (tree_names s b.2 ts b.0 b.3 ∙ (pattern_names p b.0 b.1 b.4 ∙ object_names o b.1 q.0 b.5)))))))))
+    (sym (tree_names s b.2 ts b.0 b.3 ∙ (pattern_names p b.0 b.1 b.4 ∙ object_names o b.1 q.0 b.5))))))))))
 
 pub stated_read : (s : Statement) (ts : List Token) → Spells s ts → stated (statement_in ts) ≡ Some s
 stated_read s ts q = ap stated (statement_read s ts q)
 
 -- there is a mark for each token
 pub all_counted : (s : Statement) (ts : List Token) → Spells s ts → length ts ≡ length (lacking_in ts s)
-all_counted (Says NoBody g) ts q = ap length q.1 ∙ (goto_counted g q.0 q.2 ∙ ap (λ (m : List Token). length (lacking_goto (named_first m) g)) (sym q.1))
+all_counted (Says NoBody g) ts q = rw q.1 (goto_counted g q.0 q.2)
 all_counted (Says (Does s p o) g) ts q =
     let b = q.1 in
     let names = tree_names s b.2 ts b.0 b.3 ∙ (pattern_names p b.0 b.1 b.4 ∙ object_names o b.1 q.0 b.5) in

@@ -1,15 +1,13 @@
 -- Examples, by computing: what the tokens of a statement are read as, and where their leftmost fault stands.
-use Rattle.std.proofs.Common.{◌≡◌, ℕ, List, [], ◌∷◌, refl}
-use Rattle.std.specs.Prelude.{Bool, true, false, Option, Some, None}
+use Rattle.std.{proofs.Common.{◌≡◌, ℕ, List, [], ◌∷◌, refl}, specs.Prelude.{Bool, true, false, Option, Some, None}}
+use Rattle.sno_lexer.{specs.declared.token.Mark.{Mark}, specs.declared.token.Mark.TheVariants.{Slash, Plus, Dot, Dollar, Ampersand}, specs.declared.token.Outcome.{Outcome}, specs.declared.token.Token.{Token}}
+use Rattle.sno_lexer.{specs.declared.token.Outcome.TheVariants.{Success, Failure}, specs.declared.token.Part.TheVariants.{Equals, Colon, On, Label}}
 use Rattle.sno_lexer.specs.declared.token.Constant.TheVariants as constant
-use Rattle.sno_lexer.specs.declared.token.{Mark.{Mark}, Mark.TheVariants.{Slash, Plus, Dot, Dollar, Ampersand}, Outcome.{Outcome}, Token.{Token}}
-use Rattle.sno_lexer.specs.declared.token.{Outcome.TheVariants.{Success, Failure}, Part.TheVariants.{Equals, Colon, On, Label}}
 use Rattle.sno_lexer.specs.declared.token.TokenKind.TheVariants as token
-use Rattle.sno_expression.specs.{Spelling.{spaced}, Expressions.{Expression, Identifier, Constant, Call, Unary, NoArguments, Omitted, Argument}}
+use Rattle.sno_expression.{specs.Spelling.{spaced}, specs.Expressions.{Expression, Identifier, Constant, Call, Unary, NoArguments, Omitted, Argument}}
 use Rattle.sno_expression.specs.declared.tree.UnaryOperator.TheVariants as unary
-use Rattle.sno_statement.specs.{declared.fault.Fault.{Fault}, declared.fault.FaultKind.TheVariants.{MissingBlank, Unfit, NoVariable}, inner.Faults.{fault}}
-use Rattle.sno_statement.specs.Statements.{Target, To, Computed, NoGoto, Always, OnSuccess, OnBoth, NullObject, NoBody, Does, Statement, Says}
-use Rattle.sno_statement.specs.inner.Parsing.{FaultAt, stated, statement_in}
+use Rattle.sno_statement.{specs.declared.fault.Fault.{Fault}, specs.declared.fault.FaultKind.TheVariants.{MissingBlank, NoVariable}, specs.inner.Faults.{fault}}
+use Rattle.sno_statement.{specs.Statements.{Target, To, Computed, NoGoto, OnSuccess, OnBoth, NullObject, NoBody, Does, Statement, Says}, specs.inner.Parsing.{FaultAt, stated, statement_in}}
 
 -- tokens, each with whether a blank stands before it, and where it matters whether one follows; every constant is the
 -- literal '1'
@@ -50,17 +48,9 @@ answer ts = (stated (statement_in ts), fault ts)
 blanks_round_plus : fault (name true 88 ∷ mark true true Plus ∷ one true ∷ []) ≡ Some (FaultAt 1 MissingBlank)
 blanks_round_plus = refl
 
--- X / 1
-no_pattern_by_slash : fault (name true 88 ∷ mark true true Slash ∷ one true ∷ []) ≡ Some (FaultAt 1 Unfit)
-no_pattern_by_slash = refl
-
 -- :F(M)S(L)
 failure_first : answer (colon true ∷ on false Failure ∷ spaced false false token.Open ∷ label 77 ∷ spaced false false token.Close ∷ on false Success ∷ spaced false false token.Open ∷ label 76 ∷ spaced false false token.Close ∷ []) ≡ (Some (Says NoBody (OnBoth (to 76) (to 77))), None)
 failure_first = refl
-
--- :S(L)S(M)
-twice_success : fault (colon true ∷ on false Success ∷ spaced false false token.Open ∷ label 76 ∷ spaced false false token.Close ∷ on false Success ∷ spaced false false token.Open ∷ label 77 ∷ spaced false false token.Close ∷ []) ≡ Some (FaultAt 5 Unfit)
-twice_success = refl
 
 -- :S( $A('1') )
 computed_call : answer (colon true ∷ on false Success ∷ spaced false false token.Open ∷ mark true false Dollar ∷ name false 65 ∷ spaced false false token.Open ∷ one false ∷ spaced false false token.Close ∷ spaced true false token.Close ∷ []) ≡ (Some (Says NoBody (OnSuccess (Computed (Call (65 ∷ []) (Argument NoArguments unit))))), None)
@@ -85,11 +75,3 @@ keyword_with_pattern = refl
 -- $F() P =
 indirect_call_replaced : answer (mark true false Dollar ∷ name false 70 ∷ spaced false false token.Open ∷ spaced false false token.Close ∷ name true 80 ∷ equals true true ∷ []) ≡ (Some (Says (Does (Unary unary.Indirect (Call (70 ∷ []) (Omitted NoArguments))) (Some (variable 80)) NullObject) (NoGoto)), None)
 indirect_call_replaced = refl
-
--- A = :(L)
-null_object_and_goto : answer (name true 65 ∷ equals true true ∷ colon true ∷ spaced false false token.Open ∷ label 76 ∷ spaced false false token.Close ∷ []) ≡ (Some (Says (Does (variable 65) None NullObject) (Always (to 76))), None)
-null_object_and_goto = refl
-
--- A = (1 + 2
-group_open : fault (name true 65 ∷ equals true true ∷ spaced true false token.Open ∷ one false ∷ mark true true Plus ∷ one true ∷ []) ≡ Some (FaultAt 6 Unfit)
-group_open = refl

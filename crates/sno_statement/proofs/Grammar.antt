@@ -1,7 +1,6 @@
 -- A statement is read exactly where it is spelled, and tokens spell one at the most.
-use Rattle.std.proofs.Common.{◌≡◌, subst, refl}
-use Rattle.std.specs.Prelude.{Some, Result, Ok, Err}
-use Rattle.sno_statement.specs.{declared.parser.Refusal.{Refusal}, Statements.{Statement}, Spelling.{Spells}, Laws.{OneStatement, Taken}}
+use Rattle.std.{proofs.Common.{◌≡◌, subst, refl}, specs.Prelude.{Some, Result, Ok, Err}}
+use Rattle.sno_statement.{specs.declared.parser.Refusal.{Refusal}, specs.Statements.{Statement}, specs.Spelling.{Spells}, specs.Laws.{OneStatement, Taken}}
 use Rattle.sno_statement.{specs.inner.Parsing.{Stated, States, stated, statement_in}, proofs.Completing.{stated_read}, proofs.Sound.{statement_sound}}
 
 -- a statement is the only one that its tokens spell

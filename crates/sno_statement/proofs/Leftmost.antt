@@ -1,15 +1,14 @@
 -- The fault that is found is the leftmost.
 use Rattle.std.proofs.Common.{arith, ◌≡◌, ℕ, suc, ◌+◌, ◌-◌, ◌<◌, List, [], ◌∷◌, ◌++◌, length, refl, sym, ap, ap₂, ◌∙◌, subst}
-use Rattle.std.specs.Prelude.{Bool, true, false, nat_eq, Option, Some, None, Result, Ok, Err, if◌then◌else◌}
-use Rattle.std.proofs.lemmas.{List.{length-append, append_assoc, append-nil}, Bool.Decides.{nat_tests}}
-use Rattle.sno_lexer.specs.declared.token.{Token.{Token}, TokenKind.{TokenKind}}
+use Rattle.std.{specs.Prelude.{Bool, true, false, nat_eq, Option, Some, None, Result, Ok, Err, if◌then◌else◌}, proofs.lemmas.List.{length-append, append_assoc, append-nil}}
+use Rattle.std.proofs.lemmas.Bool.Decides.{nat_tests}
+use Rattle.sno_lexer.{specs.declared.token.Token.{Token}, specs.declared.token.TokenKind.{TokenKind}}
 use Rattle.sno_expression.{specs.Spelling.{spaced}, specs.inner.Telling.{most}, proofs.Lacks.{lacks, marked, first_marked, none_lack, lack_none}}
-use Rattle.sno_statement.specs.{declared.fault.Fault.{Fault}, declared.fault.FaultKind.{FaultKind}, declared.parser.Refusal.{Refusal}, Statements.{Statement}}
-use Rattle.sno_statement.specs.{declared.fault.FaultKind.TheVariants.{MissingBlank, Unfit, NoVariable}, Spelling.{Spells}, Laws.{FaultIsLeftmost}}
-use Rattle.sno_statement.specs.{Lacking.{lacking_in, StatementHasVariables}, inner.Parsing.{FaultAt, blamed, blame, fault_of, Stated, States, statement_in}}
-use Rattle.sno_statement.specs.{Faults.{IsSpelled, IsFit, Begins, EndsBefore, Stops as Ends_for, Lacks, Blames, IsLeftmostFault}, inner.Faults.{fault}}
-use Rattle.sno_statement.proofs.{Completing.{statement_read, all_counted}, Sound.{statement_sound}}
-use Rattle.sno_statement.proofs.Shapes.{count, later, merged, count_later, count_merged, Shape, Start, run, begun_is, GoesTo, may, Step, Goes, Stops, step, some_goes, Ending, Ends, Unended, ending_of, completes, grows}
+use Rattle.sno_statement.{specs.declared.fault.Fault.{Fault}, specs.declared.fault.FaultKind.{FaultKind}, specs.declared.parser.Refusal.{Refusal}, specs.Statements.{Statement}}
+use Rattle.sno_statement.{specs.declared.fault.FaultKind.TheVariants.{MissingBlank, Unfit, NoVariable}, specs.Spelling.{Spells}, specs.Laws.{FaultIsLeftmost}, specs.Lacking.{lacking_in, StatementHasVariables}}
+use Rattle.sno_statement.{specs.inner.Parsing.{FaultAt, blamed, fault_of, Stated, States, statement_in}, specs.Faults.{IsSpelled, IsFit, Begins, EndsBefore, Stops as Ends_for, Lacks, Blames, IsLeftmostFault}}
+use Rattle.sno_statement.{specs.inner.Faults.{fault}, proofs.Completing.{statement_read, all_counted}, proofs.Sound.{statement_sound}}
+use Rattle.sno_statement.proofs.Shapes.{count, later, merged, count_later, count_merged, Shape, Start, run, Onto, may, Moves, Goes, Stops, step, some_goes, Ending, Ends, Unended, ending_of, completes, grows}
 
 -- WHERE A READING STANDS
 
@@ -17,12 +16,10 @@ use Rattle.sno_statement.proofs.Shapes.{count, later, merged, count_later, count
 abbrev Reached : List Token → Shape → Option ℕ → Type 0
 Reached taken c o = (m : List Token) → statement_in (taken ++ m) ≡ run c (count o (length m)) m
 
-goes_on : (taken : List Token) (c : Shape) (o : Option ℕ) (t : Token) → Reached taken c o → (g : GoesTo c t) → Reached (taken ++ t ∷ []) g.0 (merged (later o) g.1)
+goes_on : (taken : List Token) (c : Shape) (o : Option ℕ) (t : Token) → Reached taken c o → (g : Onto (run c) t) → Reached (taken ++ t ∷ []) g.0 (merged (later o) g.1)
 goes_on taken c o t r g m =
-    ap statement_in (append_assoc taken (t ∷ []) m)
-    ∙ (r (t ∷ m)
-    ∙ (g.2 (count o (suc (length m))) m
-    ∙ (ap (λ (x : ℕ). run g.0 (most x (count g.1 (length m))) m) (count_later o (length m)) ∙ ap (λ (x : ℕ). run g.0 x m) (count_merged (later o) g.1 (length m)))))
+    ap statement_in (append_assoc taken (t ∷ []) m) ∙ (r (t ∷ m) ∙ (g.2 (count o (suc (length m))) m
+    ∙ ap (λ (x : ℕ). run g.0 x m) (ap (λ (x : ℕ). most x (count g.1 (length m))) (count_later o (length m)) ∙ count_merged (later o) g.1 (length m))))
 
 -- a completion, and what it lacks
 record Known (taken : List Token) (o : Option ℕ) : Type 0 where
@@ -32,8 +29,8 @@ record Known (taken : List Token) (o : Option ℕ) : Type 0 where
   place : lacks (lacking_in (taken ++ rest) statement) 0 ≡ count o (length rest)
   size : length (lacking_in (taken ++ rest) statement) ≡ length taken + length rest
 
-stated_place : (x : Result Stated Refusal) (s t : Statement) (n k : ℕ) → x ≡ Ok (States s n) → x ≡ Ok (States t k) → n ≡ k
-stated_place x s t n k e d = cc
+stated_place : (x : Result Stated Refusal) (s : Statement) (n k : ℕ) → x ≡ Ok (States s n) → x ≡ Ok (States s k) → n ≡ k
+stated_place x s n k e d = cc
 
 known : (taken : List Token) (c : Shape) (o : Option ℕ) → Reached taken c o → Known taken o
 known taken c o r =
@@ -44,7 +41,7 @@ known taken c o r =
       rest = x.0;
       statement = y.0;
       spells = p;
-      place = stated_place (statement_in (taken ++ x.0)) y.0 y.0 (lacks (lacking_in (taken ++ x.0) y.0) 0) (count o (length x.0)) (statement_read y.0 (taken ++ x.0) p) (r x.0 ∙ y.1);
+      place = stated_place (statement_in (taken ++ x.0)) y.0 (lacks (lacking_in (taken ++ x.0) y.0) 0) (count o (length x.0)) (statement_read y.0 (taken ++ x.0) p) (r x.0 ∙ y.1);
       size = sym (all_counted y.0 (taken ++ x.0) p) ∙ length-append taken x.0;
     }
 
@@ -91,7 +88,7 @@ refuses taken c o t w r h b =
 spaced_none : (taken : List Token) (c : Shape) (o : Option ℕ) (k : TokenKind) → Reached taken c o → may c k ≡ false → (b a : Bool) → Begins (taken ++ spaced b a k ∷ []) → ⊥
 spaced_none taken c o k r e b a g = at (step c (spaced b a k))
   where
-    at : Step c (spaced b a k) → ⊥
+    at : Moves (run c) (may c k) (spaced b a k) → ⊥
     at (Goes d x) = cc (e, d)
     at (Stops h) = refuses taken c o (spaced b a k) (may c k) r h g
 
@@ -112,41 +109,33 @@ blames_end : (left taken : List Token) (c : Shape) (w : Bool) → Reached taken 
 blames_end left taken c true r h = let a = length-append taken left in (omega (arith, a), none_lacks taken c r, h)
 blames_end left taken c false r h = let a = length-append taken left in (omega (arith, a), none_lacks taken c r, h)
 
-some_is : (f g : Fault) → Some f ≡ Some g → f ≡ g
-some_is f g e = cc
-
-none_some : (f : Fault) → None ≡ Some f → ⊥
-none_some f e = cc
-
 not_zero : (n : ℕ) → nat_eq (suc n) 0 ≡ false
 not_zero n = grind (arith, nat_tests)
 
 refused_at : (left taken : List Token) (c : Shape) (o : Option ℕ) (w : Bool) → Reached taken c o → EndsBefore taken left → Ends_for (kind_of w) taken left
     → statement_in (taken ++ left) ≡ Err (blamed w (count o (length left)) left) → (f : Fault) → fault (taken ++ left) ≡ Some f → IsLeftmostFault (taken ++ left) f
 refused_at left taken c None w r b h e f d =
-    let g = some_is (FaultAt (length (taken ++ left) - length left) (kind_of w)) f (sym (ap (fault_of (length (taken ++ left))) e) ∙ d) in
-    (taken, left, refl, begins taken c None r, b, subst (λ (x : Fault). Blames x.kind x.at taken left) g (blames_end left taken c w r h))
+    let i : FaultAt (length (taken ++ left) - length left) (kind_of w) ≡ f = cc (ap (fault_of (length (taken ++ left))) e, d) in
+    (taken, left, refl, begins taken c None r, b, subst (λ (x : Fault). Blames x.kind x.at taken left) i (blames_end left taken c w r h))
 refused_at left taken c (Some p) w r b h e f d =
     let z = length (taken ++ left) in
-    let i : blame z (blamed w (suc (p + length left)) left) ≡ FaultAt (z - suc (p + length left)) NoVariable
-    = ap (λ (x : Bool). if x then FaultAt (z - length left) (kind_of w) else FaultAt (z - suc (p + length left)) NoVariable) (not_zero (p + length left)) in
-    let g = some_is (FaultAt (z - suc (p + length left)) NoVariable) f (sym (ap (fault_of z) e ∙ ap (λ (x : Fault). Some x) i) ∙ d) in
+    let g : FaultAt (z - suc (p + length left)) NoVariable ≡ f
+    = cc (ap (fault_of z) e, d, ap (λ (x : Bool). Some (if x then FaultAt (z - length left) (kind_of w) else FaultAt (z - suc (p + length left)) NoVariable)) (not_zero (p + length left))) in
     (taken, left, refl, begins taken c (Some p) r, b, subst (λ (x : Fault). Blames x.kind x.at taken left) g (blames_place left taken c p r))
 
 lacking_at : (taken : List Token) (c : Shape) (o : Option ℕ) (s : Statement) → Reached taken c o → statement_in (taken ++ []) ≡ Ok (States s (count o 0))
     → (f : Fault) → fault (taken ++ []) ≡ Some f → IsLeftmostFault (taken ++ []) f
-lacking_at taken c None s r e f d = absurd (none_some f (sym (ap (fault_of (length (taken ++ []))) e) ∙ d))
+lacking_at taken c None s r e f d = cc (ap (fault_of (length (taken ++ []))) e, d)
 lacking_at taken c (Some p) s r e f d =
     let z = length (taken ++ []) in
-    let i : fault_of z (Ok (States s (suc (p + 0)))) ≡ Some (FaultAt (z - suc (p + 0)) NoVariable)
-    = ap (λ (x : Bool). if x then None else Some (FaultAt (z - suc (p + 0)) NoVariable)) (not_zero (p + 0)) in
-    let g = some_is (FaultAt (z - suc (p + 0)) NoVariable) f (sym (ap (fault_of z) e ∙ i) ∙ d) in
+    let g : FaultAt (z - suc (p + 0)) NoVariable ≡ f
+    = cc (ap (fault_of z) e, d, ap (λ (x : Bool). if x then None else Some (FaultAt (z - suc (p + 0)) NoVariable)) (not_zero (p + 0))) in
     (taken, [], refl, begins taken c (Some p) r, tt, subst (λ (x : Fault). Blames x.kind x.at taken []) g (blames_place [] taken c p r))
 
 judge : (left taken : List Token) (c : Shape) (o : Option ℕ) → Reached taken c o → (f : Fault) → fault (taken ++ left) ≡ Some f → IsLeftmostFault (taken ++ left) f
 judge [] taken c o r f e = at (ending_of c)
   where
-    at : Ending c → IsLeftmostFault (taken ++ []) f
+    at : Ending (run c) → IsLeftmostFault (taken ++ []) f
     at (Ends h) = let x = h (count o 0) in lacking_at taken c o x.0 r (r [] ∙ x.1) f e
     at (Unended h) = refused_at [] taken c o false r tt (unspelled h) (r [] ∙ h (count o 0)) f e
       where
@@ -161,7 +150,7 @@ judge (t ∷ left) taken c o r f e = at (step c t) (λ d p q h. judge left (take
     kinds true d = let g = some_goes c t.kind d in (g.0, g.1, begins (taken ++ spaced g.0 g.1 t.kind ∷ []) g.2.0 (merged (later o) g.2.1) (goes_on taken c o (spaced g.0 g.1 t.kind) r g.2))
     kinds false d = λ g. spaced_none taken c o t.kind r d g.0 g.1 g.2
 
-    at : Step c t
+    at : Moves (run c) (may c t.kind) t
         → ((d : Shape) (p : Option ℕ) → Reached (taken ++ t ∷ []) d p → fault ((taken ++ t ∷ []) ++ left) ≡ Some f → IsLeftmostFault ((taken ++ t ∷ []) ++ left) f)
         → IsLeftmostFault (taken ++ t ∷ left) f
     at (Goes d g) on =
@@ -173,15 +162,12 @@ judge (t ∷ left) taken c o r f e = at (step c t) (λ d p q h. judge left (take
         (r (t ∷ left) ∙ h (count o (suc (length left))) left) f e
 
 pub found : (ts : List Token) (f : Fault) → fault ts ≡ Some f → IsLeftmostFault ts f
-found ts f e = judge ts [] Start None begun_is f e
+found ts f e = judge ts [] Start None (λ m. refl) f e
 
 -- ONE FAULT
 
 shorter : (pre b : List Token) (t : Token) → Begins (pre ++ t ∷ b) → Begins (pre ++ t ∷ [])
-shorter pre b t g = (
-  b ++ g.0,
-  subst IsSpelled (append_assoc pre (t ∷ b) g.0 ∙ sym (append_assoc pre (t ∷ []) (b ++ g.0))) g.1,
-)
+shorter pre b t g = (b ++ g.0, subst IsSpelled (append_assoc pre (t ∷ b) g.0 ∙ sym (append_assoc pre (t ∷ []) (b ++ g.0))) g.1)
 
 abbrev Last : List Token → List Token → Type 0
 Last taken left = Begins taken × EndsBefore taken left
@@ -209,10 +195,9 @@ same_end (t ∷ a) (u ∷ b) l k pre e x y =
 
 same_blame : (taken left : List Token) (k q : FaultKind) (i j : ℕ) → Blames k i taken left → Blames q j taken left → FaultAt i k ≡ FaultAt j q
 same_blame taken left NoVariable NoVariable i j a b =
-    ap (λ (x : ℕ). FaultAt x NoVariable) (same (λ h. b.1 i h a.0) (λ h. a.1 j h b.0))
-  where
-    same : (i < j → ⊥) → (j < i → ⊥) → i ≡ j
-    same g h = omega (arith, g, h)
+    let g : i < j → ⊥ = λ h. b.1 i h a.0 in
+    let h : j < i → ⊥ = λ h. a.1 j h b.0 in
+    ap (λ (x : ℕ). FaultAt x NoVariable) (let e : i ≡ j = omega (arith, g, h) in e)
 same_blame taken left NoVariable Unfit i j a b = absurd (b.1 i a.0)
 same_blame taken left NoVariable MissingBlank i j a b = absurd (b.1 i a.0)
 same_blame taken left Unfit NoVariable i j a b = absurd (a.1 j b.0)
@@ -233,7 +218,7 @@ one_fault ts f g x y =
 
 pub has_variables : (ts : List Token) (s : Statement) (n : ℕ) → statement_in ts ≡ Ok (States s n) → nat_eq n 0 ≡ true → StatementHasVariables ts s
 has_variables ts s n e d =
-    let p = stated_place (statement_in ts) s s (lacks (lacking_in ts s) 0) n (statement_read s ts (statement_sound ts s n e)) e in
+    let p = stated_place (statement_in ts) s (lacks (lacking_in ts s) 0) n (statement_read s ts (statement_sound ts s n e)) e in
     let z : n ≡ 0 = grind (arith, nat_tests, d) in
     lack_none (lacking_in ts s) (p ∙ z)
 

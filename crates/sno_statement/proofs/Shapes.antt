@@ -1,19 +1,16 @@
 -- How a statement is read token by token: what has been read so far makes of the tokens to come what a shape makes of them.
-use Rattle.std.proofs.Common.{arith, ◌≡◌, ℕ, suc, ◌+◌, ◌≤◌, length, List, [], ◌∷◌, ◌++◌, refl, sym, ap, ap₂, ◌∙◌, subst, inl, inr}
-use Rattle.std.specs.Prelude.{Bool, true, false, nat_le, Option, Some, None, is_some, Result, Ok, Err, ◌⊎◌, ◌||◌, ◌&&◌, not, if◌then◌else◌}
-use Rattle.std.proofs.lemmas.Bool.{leb-true, Decides.{nat_tests}}
-use Rattle.sno_lexer.specs.declared.token.{Mark.TheVariants.{Dollar}, Outcome.{Outcome}, Outcome.TheVariants.{Success, Failure}, Token.{Token}}
-use Rattle.sno_lexer.specs.declared.token.{Part.TheVariants.{Equals, Colon, On, Label}, TokenKind.{TokenKind}}
+use Rattle.std.proofs.Common.{arith, ◌≡◌, ℕ, suc, ◌+◌, ◌≤◌, length, List, [], ◌∷◌, ◌++◌, refl, sym, ap, ap₂, ◌∙◌}
+use Rattle.std.{specs.Prelude.{Bool, true, false, Option, Some, None, is_some, Result, Ok, Err, ◌||◌, ◌&&◌, not, if◌then◌else◌}, proofs.lemmas.Bool.Decides.{nat_tests}}
+use Rattle.sno_lexer.{specs.declared.token.Mark.TheVariants.{Dollar}, specs.declared.token.Outcome.{Outcome}, specs.declared.token.Token.{Token}, specs.declared.token.Part.TheVariants.{On, Label}}
+use Rattle.sno_lexer.specs.declared.token.TokenKind.{TokenKind}
 use Rattle.sno_lexer.specs.declared.token.TokenKind.TheVariants as token
-use Rattle.sno_expression.specs.{declared.tree.UnaryOperator.TheVariants.{Indirect}, Expressions.{Expression, Unary}, Spelling.{spaced}}
-use Rattle.sno_expression.specs.inner.Reading.{State, Bottom, Begin, Under, Due, Named, At, read, result, start, opens_bracket, variable_due}
-use Rattle.sno_expression.specs.inner.Telling.{most, begins, begins_variable, starts_in, lack_at, fits_at, Told, Tells, with_lack, then_tell, told, telling}
-use Rattle.sno_expression.proofs.{Closing.{closing as parenthesis, completion, tail, state_ends}, Loop.{none_most, most_none, most_most, with_none}}
-use Rattle.sno_expression.proofs.{Sound.{sound}, Telling.{taken_fits, fits_taken, starts, start_begins, begins_any}}
-use Rattle.sno_statement.specs.declared.{parser.Refusal.{Refusal}, role.Role.{Role}, role.Role.TheVariants.{Assigns, Goes as Leads_on, Follows, Touches}}
-use Rattle.sno_statement.proofs.Roles.{goes, assigns, no_colon_follows, indirect_of, follows}
-use Rattle.sno_statement.specs.Statements.{Target, To, Computed, Goto, NoGoto, Always, OnBoth, NoObject, NullObject, ValueObject, Body, NoBody, Does, Statement, Says, may_be_set}
-use Rattle.sno_statement.specs.inner.Parsing.{role, blamed, Aim, Aimed, closing, indirect, computed, inside, target_in, at_last, always, both, on_one, next, chosen, goto_in, Stated, States, going, is_colon, ends_part, ending, ends_by, giving, by_object, object_in, set, by_pattern, pattern_then, matching, by_subject, subject_then, acting, by_first, statement_in}
+use Rattle.sno_expression.{specs.Expressions.{Expression}, specs.Spelling.{spaced}, specs.inner.Reading.{State, Due, Named, At, read, result, start, opens_bracket, variable_due}}
+use Rattle.sno_expression.specs.inner.Telling.{most, begins, begins_variable, lack_at, fits_at, Told, Tells, with_lack, then_tell, told, telling}
+use Rattle.sno_expression.{proofs.Closing.{closing as parenthesis, completion, tail, state_ends}, proofs.Loop.{none_most, most_none, with_both}}
+use Rattle.sno_expression.proofs.Telling.{taken_fits, fits_taken, starts, start_begins, begins_any}
+use Rattle.sno_statement.specs.declared.parser.Refusal.{Refusal}
+use Rattle.sno_statement.specs.Statements.{Target, To, Computed, Goto, NoGoto, Always, NoObject, NullObject, ValueObject, Body, NoBody, Does, Statement, Says, may_be_set}
+use Rattle.sno_statement.specs.inner.Parsing.{blamed, Aim, Aimed, closing, computed, element, inside, target_in, Stated, States, at_last, last, pair, is_other, on_one, next, chosen, goto_in, is_colon, is_equals, ending, giving, object_in, set, parted, matching, subject_then, acting, begun}
 
 -- PLACES
 
@@ -38,13 +35,7 @@ count_later (Some d) n = omega arith
 pub count_merged : (o p : Option ℕ) (n : ℕ) → most (count o n) (count p n) ≡ count (merged o p) n
 count_merged None p n = none_most (count p n)
 count_merged (Some d) None n = most_none (suc (d + n))
-count_merged (Some d) (Some e) n = at (nat_le d e) (nat_le (suc (d + n)) (suc (e + n))) refl refl
-  where
-    at : (x y : Bool) → nat_le d e ≡ x → nat_le (suc (d + n)) (suc (e + n)) ≡ y → (if y then suc (e + n) else suc (d + n)) ≡ suc ((if x then e else d) + n)
-    at true true f g = refl
-    at true false f g = grind (arith, nat_tests, f, g)
-    at false true f g = grind (arith, nat_tests, f, g)
-    at false false f g = refl
+count_merged (Some d) (Some e) n = grind (arith, nat_tests)
 
 -- the place that a token shows
 abbrev shown : State → Token → Option ℕ
@@ -65,19 +56,13 @@ shown_count (At st _) t n = refl
 
 -- what stands behind a target: nothing more, or the other outcome too
 pub data Behind : Type 0 where
-  Alone : Body → Behind
+  Last : Body → (Target → Goto) → Behind
   First : Body → Outcome → Behind
-  Second : Body → Outcome → Target → Behind
-
-abbrev pair : Outcome → Target → Target → Goto
-pair Success t u = OnBoth t u
-pair Failure t u = OnBoth u t
 
 abbrev aim_then : Behind → Result Aim Refusal → Result Stated Refusal
 aim_then k (Err r) = Err r
-aim_then (Alone b) (Ok (Aimed t n ts)) = going b (at_last (Always t) n ts)
-aim_then (First b o) (Ok (Aimed t n ts)) = going b (next o t n ts)
-aim_then (Second b o u) (Ok (Aimed t n ts)) = going b (at_last (pair o u t) n ts)
+aim_then (Last b g) (Ok (Aimed t n ts)) = at_last b (g t) n ts
+aim_then (First b o) (Ok (Aimed t n ts)) = next b o t n ts
 
 -- an expression that is read
 pub data Field : Type 0 where
@@ -91,87 +76,218 @@ alone Subject = true
 alone (Element k) = true
 alone _ = false
 
--- what is read as the element of a target is an indirect reference
-abbrev pub Proper : Field → State → Type 0
-Proper (Element k) s = (ts rest : List Token) (t : Expression) (n : ℕ) (w : Bool) → told true s ts ≡ Tells (Some t) rest n w → (u : Expression) × (t ≡ Unary Indirect u)
-Proper _ s = Unit {0}
-
 pub data Shape : Type 0 where
   Start : Shape
-  In : ℕ → (f : Field) → (s : State) → Proper f s → Shape  -- behind so many tokens
+  In : ℕ → Field → State → Shape  -- behind so many tokens
   AfterEquals : Expression → Option Expression → Shape
   AfterColon : Body → Shape
   AfterOutcome : Behind → Shape
   InTarget : Behind → Shape
+  AfterDollar : Behind → Shape
   AfterLabel : Behind → List ℕ → Shape
   AfterFirst : Body → Outcome → Target → Shape
   AfterLast : Body → Goto → Shape
 
--- what is told of an expression, with l tokens from where it is told on
-abbrev use_told : ℕ → Field → ℕ → ℕ → Told → Result Stated Refusal
-use_told u Subject l n x = acting (u + l) (with_lack n x)
-use_told u (Pattern y) l n x = matching (u + l) y n x
-use_told u (Object y p) l n x = giving y p n x
-use_told u (Element k) l n x = aim_then k (computed n x)
+-- what is made of what is told of an expression, with z tokens from the subject on
+abbrev made : ℕ → Field → Told → Result Stated Refusal
+made z Subject x = acting z x
+made z (Pattern y) x = matching z y x
+made z (Object y p) x = giving y p x
+made z (Element k) x = aim_then k (computed x)
 
--- behind the expression
-abbrev left : ℕ → Field → ℕ → Expression → Bool → ℕ → List Token → Result Stated Refusal
-left u Subject l x w n ts = subject_then (u + l) w x n ts
-left u (Pattern y) l x w n ts = pattern_then (u + l) w y x n ts
-left u (Object y p) l x w n ts = ending w (Does y p (ValueObject x)) n ts
-left u (Element k) l x w n ts = aim_then k (indirect w (Some x) n ts)
-
-abbrev begun_by : Role → ℕ → ℕ → Token → List Token → Result Stated Refusal
-begun_by Assigns l n t ts = Err (blamed false n (t ∷ ts))
-begun_by Leads_on l n t ts = going NoBody (goto_in n ts)
-begun_by Follows l n t ts = use_told 0 Subject l n (telling true (t ∷ ts))
-begun_by Touches l n t ts = if is_colon t.kind then Err (blamed true n (t ∷ ts)) else use_told 0 Subject l n (telling true (t ∷ ts))
-
-abbrev begun : ℕ → List Token → Result Stated Refusal
-begun n [] = Ok (States (Says NoBody NoGoto) n)
-begun n (t ∷ ts) = begun_by (role t) (length (t ∷ ts)) n t ts
+-- and of what stands behind the expression
+abbrev left : ℕ → Field → Bool → Expression → ℕ → List Token → Result Stated Refusal
+left z Subject w x n ts = subject_then z w x n ts
+left z (Pattern y) w x n ts = parted z w y (Some x) n ts
+left z (Object y p) w x n ts = ending w (Does y p (ValueObject x)) n ts
+left z (Element k) w x n ts = aim_then k (closing w (Computed x) n ts)
 
 abbrev pub run : Shape → ℕ → List Token → Result Stated Refusal
 run Start n ts = begun n ts
-run (In u f s i) n ts = use_told u f (length ts) n (told (alone f) s ts)
+run (In u f s) n ts = made (u + length ts) f (with_lack n (told (alone f) s ts))
 run (AfterEquals x p) n ts = object_in x p n ts
-run (AfterColon b) n ts = going b (goto_in n ts)
+run (AfterColon b) n ts = goto_in b n ts
 run (AfterOutcome k) n ts = aim_then k (target_in n ts)
 run (InTarget k) n ts = aim_then k (inside n ts)
+run (AfterDollar k) n ts = aim_then k (element n ts)
 run (AfterLabel k l) n ts = aim_then k (closing false (To l) n ts)
-run (AfterFirst b o t) n ts = going b (next o t n ts)
-run (AfterLast b g) n ts = going b (at_last g n ts)
+run (AfterFirst b o t) n ts = next b o t n ts
+run (AfterLast b g) n ts = at_last b g n ts
 
-pub begun_is : (ts : List Token) → statement_in ts ≡ run Start 0 ts
-begun_is [] = refl
-begun_is (t ∷ ts) = at (role t)
-  where
-    acts : acting (length (t ∷ ts)) (telling true (t ∷ ts)) ≡ use_told 0 Subject (length (t ∷ ts)) 0 (telling true (t ∷ ts))
-    acts = ap₂ acting (let e : length (t ∷ ts) ≡ 0 + length (t ∷ ts) = omega arith in e) (sym (with_none (telling true (t ∷ ts))))
+last_then : (b : Body) (g : Target → Goto) (x : Result Aim Refusal) → last b g x ≡ aim_then (Last b g) x
+last_then b g (Err r) = refl
+last_then b g (Ok (Aimed t n ts)) = refl
 
-    touching : (c : Bool) → (if c then Err (blamed true 0 (t ∷ ts)) else acting (length (t ∷ ts)) (telling true (t ∷ ts)))
-        ≡ (if c then Err (blamed true 0 (t ∷ ts)) else use_told 0 Subject (length (t ∷ ts)) 0 (telling true (t ∷ ts)))
-    touching true = refl
-    touching false = acts
+chosen_then : (b : Body) (o : Outcome) (x : Result Aim Refusal) → chosen b o x ≡ aim_then (First b o) x
+chosen_then b o (Err r) = refl
+chosen_then b o (Ok (Aimed t n ts)) = refl
 
-    at : (r : Role) → by_first r (length (t ∷ ts)) t ts ≡ begun_by r (length (t ∷ ts)) 0 t ts
-    at Assigns = refl
-    at Leads_on = refl
-    at Follows = acts
-    at Touches = touching (is_colon t.kind)
+abbrev after : Behind → Target → Shape
+after (Last b g) t = AfterLast b (g t)
+after (First b o) t = AfterFirst b o t
+
+aimed : (k : Behind) (t : Target) (n : ℕ) (m : List Token) → aim_then k (Ok (Aimed t n m)) ≡ run (after k t) n m
+aimed (Last b g) t n m = refl
+aimed (First b o) t n m = refl
+
+none_used : (z : ℕ) (f : Field) (n : ℕ) (rest : List Token) (w : Bool) → made z f (Tells None rest n w) ≡ Err (blamed w n rest)
+none_used z Subject n rest w = refl
+none_used z _ n rest w = refl
+
+some_used : (z : ℕ) (f : Field) (n : ℕ) (x : Expression) (rest : List Token) (w : Bool) → made z f (Tells (Some x) rest n w) ≡ left z f w x n rest
+some_used z Subject n x rest w = refl
+some_used z _ n x rest w = refl
 
 -- ONE MORE TOKEN
 
-abbrev pub GoesTo : Shape → Token → Type 0
-GoesTo c t = (d : Shape) × (p : Option ℕ) × ((n : ℕ) (m : List Token) → run c n (t ∷ m) ≡ run d (most n (count p (length m))) m)
+-- one more token leads to a shape, and shows a place
+abbrev pub Onto : (ℕ → List Token → Result Stated Refusal) → Token → Type 0
+Onto g t = (d : Shape) × (p : Option ℕ) × ((n : ℕ) (m : List Token) → g n (t ∷ m) ≡ run d (most n (count p (length m))) m)
+
+-- it is taken, as its kind may be with some blanks, or it is refused
+pub data Moves (g : ℕ → List Token → Result Stated Refusal) (may : Bool) (t : Token) : Type 0 where
+  Goes : may ≡ true → Onto g t → Moves g may t
+  Stops : ((n : ℕ) (m : List Token) → g n (t ∷ m) ≡ Err (blamed may n (t ∷ m))) → Moves g may t
 
 -- nothing is lacking at the token
-onto : (c d : Shape) (t : Token) → ((n : ℕ) (m : List Token) → run c n (t ∷ m) ≡ run d n m) → GoesTo c t
-onto c d t h = (d, None, λ n m. h n m ∙ ap (λ (x : ℕ). run d x m) (sym (most_none n)))
+onto : (g : ℕ → List Token → Result Stated Refusal) (t : Token) (d : Shape) → ((n : ℕ) (m : List Token) → g n (t ∷ m) ≡ run d n m) → Onto g t
+onto g t d h = (d, None, λ n m. h n m ∙ ap (λ (x : ℕ). run d x m) (sym (most_none n)))
+
+-- what reads the same goes the same way
+moved : (g h : ℕ → List Token → Result Stated Refusal) (a b : Bool) (t : Token) → ((n : ℕ) (m : List Token) → h n (t ∷ m) ≡ g n (t ∷ m)) → a ≡ b
+    → Moves g a t → Moves h b t
+moved g h a b t e d (Goes x o) = Goes (sym d ∙ x) (o.0, o.1, λ n m. e n m ∙ o.2 n m)
+moved g h a b t e d (Stops s) = Stops (λ n m. e n m ∙ (s n m ∙ ap (λ (x : Bool). Err (blamed x n (t ∷ m))) d))
+
+or_true : (x : Bool) → (x || true) ≡ true
+or_true x = grind arith
+
+or_none : (x : Bool) → (x || false) ≡ x
+or_none x = grind arith
+
+-- WITHIN AN EXPRESSION
+
+told_end : (al : Bool) (s : State) (t : Token) (m : List Token) → read al s t ≡ None → told al s (t ∷ m) ≡ Tells (result s) (t ∷ m) 0 (fits_at al s t.kind)
+told_end al s t m e = ap (λ (o : Option State). then_tell o (Tells (result s) (t ∷ m) 0 (fits_at al s t.kind)) (lack_at s t (length (t ∷ m))) (λ u. told al u m)) e
+
+told_next : (al : Bool) (s v : State) (t : Token) (m : List Token) → read al s t ≡ Some v → told al s (t ∷ m) ≡ with_lack (count (shown s t) (length m)) (told al v m)
+told_next al s v t m e =
+    ap (λ (o : Option State). then_tell o (Tells (result s) (t ∷ m) 0 (fits_at al s t.kind)) (lack_at s t (length (t ∷ m))) (λ u. told al u m)) e
+    ∙ ap (λ (l : ℕ). with_lack l (told al v m)) (shown_count s t (length m))
+
+within : (u : ℕ) (f : Field) (s v : State) (t : Token) → read (alone f) s t ≡ Some v → Onto (run (In u f s)) t
+within u f s v t e =
+    let l = λ (m : List Token). count (shown s t) (length m) in
+    let h = λ (n : ℕ) (m : List Token). ap (with_lack n) (told_next (alone f) s v t m e) ∙ with_both n (l m) (told (alone f) v m) in
+    (In (suc u) f v, shown s t, λ n m. ap₂ (λ (z : ℕ) (x : Told). made z f x) (let d : u + suc (length m) ≡ suc u + length m = omega arith in d) (h n m))
+
+-- behind an expression that takes no more
+stopped : (u : ℕ) (f : Field) (s : State) (t : Token) → read (alone f) s t ≡ None → (n : ℕ) (m : List Token)
+    → run (In u f s) n (t ∷ m) ≡ made (u + length (t ∷ m)) f (Tells (result s) (t ∷ m) n (fits_at (alone f) s t.kind))
+stopped u f s t e n m =
+    ap (λ (x : Told). made (u + length (t ∷ m)) f (with_lack n x)) (told_end (alone f) s t m e)
+    ∙ ap (λ (k : ℕ). made (u + length (t ∷ m)) f (Tells (result s) (t ∷ m) k (fits_at (alone f) s t.kind))) (most_none n)
+
+onto_left : (u : ℕ) (f : Field) (s : State) (t : Token) (x : Expression) → read (alone f) s t ≡ None → result s ≡ Some x → (n : ℕ) (m : List Token)
+    → run (In u f s) n (t ∷ m) ≡ left (u + length (t ∷ m)) f (fits_at (alone f) s t.kind) x n (t ∷ m)
+onto_left u f s t x e r n m =
+    stopped u f s t e n m ∙ (ap (λ (o : Option Expression). made (u + length (t ∷ m)) f (Tells o (t ∷ m) n (fits_at (alone f) s t.kind))) r
+    ∙ some_used (u + length (t ∷ m)) f n x (t ∷ m) (fits_at (alone f) s t.kind))
+
+-- where an expression begins
+entered : (u : ℕ) (f : Field) (t : Token) → begins t.blank_after t.kind ≡ true → Onto (run (In u f start)) t
+entered u f t e = let v = starts (alone f) t.blank_before t.blank_after t.kind e in within u f start v.0 t v.1
+
+entering : (u : ℕ) (f : Field) (t : Token) → Moves (run (In u f start)) (begins false t.kind) t
+entering u f t = at (read (alone f) start t) refl
+  where
+    at : (o : Option State) → read (alone f) start t ≡ o → Moves (run (In u f start)) (begins false t.kind) t
+    at (Some v) d = Goes (sym (start_begins t.kind) ∙ taken_fits (alone f) start t.blank_before t.blank_after t.kind v d) (within u f start v t d)
+    at None d = Stops (λ n m. stopped u f start t d n m ∙ (none_used (u + length (t ∷ m)) f n (t ∷ m) (fits_at (alone f) start t.kind)
+        ∙ ap (λ (x : Bool). Err (blamed x n (t ∷ m))) (start_begins t.kind)))
+
+-- BEHIND AN EXPRESSION
 
 abbrev is_close : TokenKind → Bool
 is_close token.Close = true
 is_close _ = false
+
+-- does a token of this kind go on with some blanks behind what is whole
+abbrev leaves : Field → TokenKind → Bool
+leaves Subject k = begins false k || (is_equals k || is_colon k)
+leaves (Pattern x) k = is_equals k || is_colon k
+leaves (Object x p) k = is_colon k
+leaves (Element b) k = is_close k
+
+ending_moves : (w : Bool) (b : Body) (t : Token) → Moves (ending w b) (w || is_colon t.kind) t
+ending_moves w b t = at (is_colon t.kind) t.blank_before refl refl
+  where
+    at : (c d : Bool) → is_colon t.kind ≡ c → t.blank_before ≡ d → Moves (ending w b) (w || is_colon t.kind) t
+    at true true e d = Goes (rw (e, or_true w)) (onto (ending w b) t (AfterColon b) (λ n m. rw (e, d)))
+    at true false e d = Stops (λ n m. rw (e, d, or_true w))
+    at false d e f = Stops (λ n m. rw (e, or_none w))
+
+-- the place of the subject, where it may not be assigned to
+abbrev unset : ℕ → Expression → Bool → Option ℕ
+unset u x p = if may_be_set x p then None else Some u
+
+set_count : (u : ℕ) (x : Expression) (p : Bool) (l n : ℕ) → set (u + suc l) x p n ≡ most n (count (unset u x p) l)
+set_count u x p l n = at (may_be_set x p)
+  where
+    at : (c : Bool) → (if c then n else most n (u + suc l)) ≡ most n (count (if c then None else Some u) l)
+    at true = sym (most_none n)
+    at false = ap (most n) (let e : u + suc l ≡ suc (u + l) = omega arith in e)
+
+parted_moves : (u : ℕ) (w : Bool) (y : Expression) (p : Option Expression) (t : Token)
+    → Moves (λ n ts. parted (u + length ts) w y p n ts) (w || (is_equals t.kind || is_colon t.kind)) t
+parted_moves u w y p t = at (is_equals t.kind) (t.blank_before && t.blank_after) refl refl
+  where
+    at : (c d : Bool) → is_equals t.kind ≡ c → (t.blank_before && t.blank_after) ≡ d
+        → Moves (λ n ts. parted (u + length ts) w y p n ts) (w || (is_equals t.kind || is_colon t.kind)) t
+    at true true e d =
+        Goes (rw (e, or_true w)) (AfterEquals y p, unset u y (is_some p), λ n m. rw (e, d) (ap (λ (k : ℕ). object_in y p k m) (set_count u y (is_some p) (length m) n)))
+    at true false e d = Stops (λ n m. rw (e, d, or_true w))
+    at false d e f = moved (ending w (Does y p NoObject)) (λ n ts. parted (u + length ts) w y p n ts) (w || is_colon t.kind) (w || (is_equals t.kind || is_colon t.kind)) t
+        (λ n m. rw e) (rw e) (ending_moves w (Does y p NoObject) t)
+
+subject_moves : (u : ℕ) (w : Bool) (x : Expression) (t : Token)
+    → Moves (λ n ts. subject_then (u + length ts) w x n ts) (w || (begins false t.kind || (is_equals t.kind || is_colon t.kind))) t
+subject_moves u w x t = at (t.blank_before && begins t.blank_after t.kind) refl
+  where
+    b : Bool
+    b = begins false t.kind
+
+    parts : Bool
+    parts = is_equals t.kind || is_colon t.kind
+
+    starts_there : (a c : Bool) → (a && c) ≡ true → c ≡ true
+    starts_there a c e = grind (arith, e)
+
+    some : (b : Bool) → b ≡ true → (w || (b || parts)) ≡ true
+    some b e = rw e (or_true w)
+
+    regrouped : (b : Bool) → ((w || b) || parts) ≡ (w || (b || parts))
+    regrouped b = grind arith
+
+    at : (c : Bool) → (t.blank_before && begins t.blank_after t.kind) ≡ c → Moves (λ n ts. subject_then (u + length ts) w x n ts) (w || (b || parts)) t
+    at true e =
+        let d = starts_there t.blank_before (begins t.blank_after t.kind) e in
+        let g = entered u (Pattern x) t d in
+        Goes (some b (begins_any t.blank_after t.kind d)) (g.0, g.1, λ n m. rw e (g.2 n m))
+    at false e = moved (λ n ts. parted (u + length ts) (w || b) x None n ts) (λ n ts. subject_then (u + length ts) w x n ts) ((w || b) || parts) (w || (b || parts)) t
+        (λ n m. rw e) (regrouped b) (parted_moves u (w || b) x None t)
+
+left_moves : (u : ℕ) (f : Field) (w : Bool) (x : Expression) (t : Token) → Moves (λ n ts. left (u + length ts) f w x n ts) (w || leaves f t.kind) t
+left_moves u Subject w x t = subject_moves u w x t
+left_moves u (Pattern y) w x t = parted_moves u w y (Some x) t
+left_moves u (Object y p) w x t = ending_moves w (Does y p (ValueObject x)) t
+left_moves u (Element h) w x t = by t.blank_before t.blank_after t.kind
+  where
+    by : (b a : Bool) (k : TokenKind) → Moves (λ n ts. left (u + length ts) (Element h) w x n ts) (w || is_close k) (spaced b a k)
+    by b a token.Close = Goes (or_true w) (onto (λ n ts. left (u + length ts) (Element h) w x n ts) (spaced b a token.Close) (after h (Computed x)) (λ n m. aimed h (Computed x) n m))
+    by b a k = Stops (λ n m. ap (λ (c : Bool). Err (blamed c n (spaced b a k ∷ m))) (sym (or_none w)))
+
+-- A STEP
 
 abbrev is_open : TokenKind → Bool
 is_open token.Open = true
@@ -187,511 +303,211 @@ leads token.Open = true
 leads (token.Part (On o)) = true
 leads _ = false
 
-abbrev other_than : Outcome → TokenKind → Bool
-other_than Success (token.Part (On Failure)) = true
-other_than Failure (token.Part (On Success)) = true
-other_than _ _ = false
-
-abbrev leaves : Field → TokenKind → Bool
-leaves Subject k = begins false k || ends_part k
-leaves (Pattern x) k = ends_part k
-leaves (Object x p) k = is_colon k
-leaves (Element b) k = is_close k
-
--- does a token of this kind go on with some blanks
+-- does a token of this kind go on with some blanks there
 abbrev pub may : Shape → TokenKind → Bool
 may Start k = begins false k || is_colon k
-may (In u f s i) k = fits_at (alone f) s k || (is_some (result s) && leaves f k)
+may (In u f s) k = fits_at (alone f) s k || (is_some (result s) && leaves f k)
 may (AfterEquals x p) k = begins false k || is_colon k
 may (AfterColon b) k = leads k
 may (AfterOutcome b) k = is_open k
 may (InTarget b) k = is_inside k
+may (AfterDollar b) k = begins false k
 may (AfterLabel b l) k = is_close k
-may (AfterFirst b o t) k = other_than o k
+may (AfterFirst b o t) k = is_other o k
 may (AfterLast b g) k = false
 
-pub data Step (c : Shape) (t : Token) : Type 0 where
-  Goes : may c t.kind ≡ true → GoesTo c t → Step c t
-  Stops : ((n : ℕ) (m : List Token) → run c n (t ∷ m) ≡ Err (blamed (may c t.kind) n (t ∷ m))) → Step c t
-
--- WITHIN AN EXPRESSION
-
-use_lack : (u : ℕ) (f : Field) (l n m : ℕ) (x : Told) → use_told u f l n (with_lack m x) ≡ use_told u f l (most n m) x
-use_lack u Subject l n m (Tells t rest k b) = ap (λ (y : ℕ). acting (u + l) (Tells t rest y b)) (sym (most_most n m k))
-use_lack u (Pattern x) l n m (Tells None rest k b) = ap (λ (y : ℕ). Err (blamed b y rest)) (sym (most_most n m k))
-use_lack u (Pattern x) l n m (Tells (Some t) rest k b) = ap (λ (y : ℕ). pattern_then (u + l) b x t y rest) (sym (most_most n m k))
-use_lack u (Object x p) l n m (Tells None rest k b) = ap (λ (y : ℕ). Err (blamed b y rest)) (sym (most_most n m k))
-use_lack u (Object x p) l n m (Tells (Some t) rest k b) = ap (λ (y : ℕ). ending b (Does x p (ValueObject t)) y rest) (sym (most_most n m k))
-use_lack u (Element h) l n m (Tells t rest k b) = ap (λ (y : ℕ). aim_then h (indirect b t y rest)) (sym (most_most n m k))
-
-use_onward : (u : ℕ) (f : Field) (l n : ℕ) (x : Told) → use_told u f (suc l) n x ≡ use_told (suc u) f l n x
-use_onward u Subject l n x = ap (λ (z : ℕ). acting z (with_lack n x)) (let e : u + suc l ≡ suc u + l = omega arith in e)
-use_onward u (Pattern y) l n x = ap (λ (z : ℕ). matching z y n x) (let e : u + suc l ≡ suc u + l = omega arith in e)
-use_onward u (Object y p) l n x = refl
-use_onward u (Element k) l n x = refl
-
--- a token that an expression takes, told of
-told_next : (al : Bool) (s v : State) (t : Token) (m : List Token) → read al s t ≡ Some v → told al s (t ∷ m) ≡ with_lack (count (shown s t) (length m)) (told al v m)
-told_next al s v t m e =
-    ap (λ (o : Option State). then_tell o (Tells (result s) (t ∷ m) 0 (fits_at al s t.kind)) (lack_at s t (length (t ∷ m))) (λ u. told al u m)) e
-    ∙ ap (λ (l : ℕ). with_lack l (told al v m)) (shown_count s t (length m))
-
-told_end : (al : Bool) (s : State) (t : Token) (m : List Token) → read al s t ≡ None → told al s (t ∷ m) ≡ Tells (result s) (t ∷ m) 0 (fits_at al s t.kind)
-told_end al s t m e = ap (λ (o : Option State). then_tell o (Tells (result s) (t ∷ m) 0 (fits_at al s t.kind)) (lack_at s t (length (t ∷ m))) (λ u. told al u m)) e
-
-lacked_is : (m : ℕ) (x : Told) (t : Expression) (rest : List Token) (n : ℕ) (w : Bool) → x ≡ Tells (Some t) rest n w → with_lack m x ≡ Tells (Some t) rest (most m n) w
-lacked_is m x t rest n w e = ap (with_lack m) e
-
-proper_next : (f : Field) (s v : State) (t : Token) → Proper f s → read (alone f) s t ≡ Some v → Proper f v
-proper_next Subject s v t i e = tt
-proper_next (Pattern x) s v t i e = tt
-proper_next (Object x p) s v t i e = tt
-proper_next (Element k) s v t i e = λ ts rest x n w d.
-    let l = count (shown s t) (length ts) in i (t ∷ ts) rest x (most l n) w (told_next true s v t ts e ∙ lacked_is l (told true v ts) x rest n w d)
-
-within : (u : ℕ) (f : Field) (s v : State) (i : Proper f s) (t : Token) → read (alone f) s t ≡ Some v → GoesTo (In u f s i) t
-within u f s v i t e = (
-  In (suc u) f v (proper_next f s v t i e),
-  shown s t,
-  λ n m.
-      let l = count (shown s t) (length m) in
-      ap (use_told u f (suc (length m)) n) (told_next (alone f) s v t m e)
-      ∙ (use_lack u f (suc (length m)) n l (told (alone f) v m) ∙ use_onward u f (length m) (most n l) (told (alone f) v m)),
-)
-
-none_used : (u : ℕ) (f : Field) (l n : ℕ) (rest : List Token) (w : Bool) → use_told u f l n (Tells None rest 0 w) ≡ Err (blamed w n rest)
-none_used u Subject l n rest w = ap (λ (x : ℕ). Err (blamed w x rest)) (most_none n)
-none_used u (Pattern x) l n rest w = ap (λ (x : ℕ). Err (blamed w x rest)) (most_none n)
-none_used u (Object x p) l n rest w = ap (λ (x : ℕ). Err (blamed w x rest)) (most_none n)
-none_used u (Element k) l n rest w = ap (λ (x : ℕ). Err (blamed w x rest)) (most_none n)
-
-some_used : (u : ℕ) (f : Field) (l n : ℕ) (x : Expression) (rest : List Token) (w : Bool) → use_told u f l n (Tells (Some x) rest 0 w) ≡ left u f l x w n rest
-some_used u Subject l n x rest w = ap (λ (y : ℕ). subject_then (u + l) w x y rest) (most_none n)
-some_used u (Pattern y) l n x rest w = ap (λ (z : ℕ). pattern_then (u + l) w y x z rest) (most_none n)
-some_used u (Object y p) l n x rest w = ap (λ (z : ℕ). ending w (Does y p (ValueObject x)) z rest) (most_none n)
-some_used u (Element k) l n x rest w = ap (λ (z : ℕ). aim_then k (indirect w (Some x) z rest)) (most_none n)
-
--- BEHIND AN EXPRESSION
-
-abbrev Suited : Field → Expression → Type 0
-Suited (Element k) x = (u : Expression) × (x ≡ Unary Indirect u)
-Suited _ x = Unit {0}
-
-told_suited : (f : Field) (s : State) (ts rest : List Token) (x : Expression) (n : ℕ) (w : Bool) → Proper f s → told (alone f) s ts ≡ Tells (Some x) rest n w → Suited f x
-told_suited (Element k) s ts rest x n w i e = i ts rest x n w e
-told_suited Subject s ts rest x n w i e = tt
-told_suited (Pattern y) s ts rest x n w i e = tt
-told_suited (Object y p) s ts rest x n w i e = tt
-
-suited : (f : Field) (s : State) (x : Expression) → Proper f s → result s ≡ Some x → Suited f x
-suited f s x i e = told_suited f s [] [] x 0 false i (ap (λ (o : Option Expression). Tells o [] 0 false) e)
-
-abbrev after : Behind → Target → Shape
-after (Alone b) t = AfterLast b (Always t)
-after (First b o) t = AfterFirst b o t
-after (Second b o u) t = AfterLast b (pair o u t)
-
-aimed : (k : Behind) (t : Target) (n : ℕ) (m : List Token) → aim_then k (Ok (Aimed t n m)) ≡ run (after k t) n m
-aimed (Alone b) t n m = refl
-aimed (First b o) t n m = refl
-aimed (Second b o u) t n m = refl
-
-abbrev LeavesTo : ℕ → Field → Expression → Bool → Token → Type 0
-LeavesTo u f x w t = (d : Shape) × (p : Option ℕ) × ((n : ℕ) (m : List Token) → left u f (suc (length m)) x w n (t ∷ m) ≡ run d (most n (count p (length m))) m)
-
-data Left (u : ℕ) (f : Field) (x : Expression) (w : Bool) (t : Token) : Type 0 where
-  Leaves : leaves f t.kind ≡ true → LeavesTo u f x w t → Left u f x w t
-  Stays : ((n : ℕ) (m : List Token) → left u f (suc (length m)) x w n (t ∷ m) ≡ Err (blamed (w || leaves f t.kind) n (t ∷ m))) → Left u f x w t
-
-leave_onto : (u : ℕ) (f : Field) (x : Expression) (w : Bool) (t : Token) (d : Shape) → ((n : ℕ) (m : List Token) → left u f (suc (length m)) x w n (t ∷ m) ≡ run d n m)
-    → LeavesTo u f x w t
-leave_onto u f x w t d h = (d, None, λ n m. h n m ∙ ap (λ (x : ℕ). run d x m) (sym (most_none n)))
-
-or_false : (x : Bool) → x ≡ (x || false)
-or_false true = refl
-or_false false = refl
-
-or_true : (x : Bool) → (x || true) ≡ true
-or_true true = refl
-or_true false = refl
-
-or_some : (x y : Bool) → y ≡ true → (x || y) ≡ true
-or_some true y e = refl
-or_some false y e = e
-
-some_or : (x y : Bool) → x ≡ true → (x || y) ≡ true
-some_or true y e = refl
-some_or false y e = cc
-
--- the place of the subject, where it may not be assigned to
-abbrev unset : ℕ → Expression → Bool → Option ℕ
-unset u x p = if may_be_set x p then None else Some u
-
-set_count : (u : ℕ) (x : Expression) (p : Bool) (l n : ℕ) → set (u + suc l) x p n ≡ most n (count (unset u x p) l)
-set_count u x p l n = at (may_be_set x p)
-  where
-    at : (c : Bool) → (if c then n else most n (u + suc l)) ≡ most n (count (if c then None else Some u) l)
-    at true = sym (most_none n)
-    at false = ap (most n) (let e : u + suc l ≡ suc (u + l) = omega arith in e)
-
-goes_colon : (t : Token) → role t ≡ Leads_on → is_colon t.kind ≡ true
-goes_colon t e = ap (λ (x : Token). is_colon x.kind) (goes t e).1
-
-goes_part : (t : Token) → role t ≡ Leads_on → ends_part t.kind ≡ true
-goes_part t e = ap (λ (x : Token). ends_part x.kind) (goes t e).1
-
-assigns_part : (t : Token) → role t ≡ Assigns → ends_part t.kind ≡ true
-assigns_part t e = ap (λ (x : Token). ends_part x.kind) (assigns t e)
-
--- the first token of an expression behind a blank
-entered : (u : ℕ) (f : Field) (i : Proper f start) (t : Token) → begins t.blank_after t.kind ≡ true → GoesTo (In u f start i) t
-entered u f i t e = let v = starts (alone f) t.blank_before t.blank_after t.kind e in within u f start v.0 i t v.1
-
-close_left : (u : ℕ) (k : Behind) (y : Expression) (w b a : Bool) (t : TokenKind) → Left u (Element k) (Unary Indirect y) w (spaced b a t)
-close_left u k y w b a token.Close = Leaves refl (leave_onto u (Element k) (Unary Indirect y) w (spaced b a token.Close) (after k (Computed y)) (λ n m. aimed k (Computed y) n m))
-close_left u k y w b a t = Stays (λ n m. ap (λ (x : Bool). Err (blamed x n (spaced b a t ∷ m))) (or_false w))
-
-left_step : (u : ℕ) (f : Field) (x : Expression) (w : Bool) (t : Token) → Suited f x → Left u f x w t
-left_step u (Element k) x w t i = subst (λ (y : Expression). Left u (Element k) y w t) (sym i.1) (close_left u k i.0 w t.blank_before t.blank_after t.kind)
-left_step u (Object y p) x w t i = at (role t) refl
-  where
-    at : (r : Role) → role t ≡ r → Left u (Object y p) x w t
-    at Leads_on e = Leaves (goes_colon t e) (leave_onto u (Object y p) x w t (AfterColon (Does y p (ValueObject x)))
-        (λ n m. ap (λ (r : Role). ends_by r (w || is_colon t.kind) (Does y p (ValueObject x)) n t m) e))
-    at Assigns e = Stays (λ n m. ap (λ (r : Role). ends_by r (w || is_colon t.kind) (Does y p (ValueObject x)) n t m) e)
-    at Follows e = Stays (λ n m. ap (λ (r : Role). ends_by r (w || is_colon t.kind) (Does y p (ValueObject x)) n t m) e)
-    at Touches e = Stays (λ n m. ap (λ (r : Role). ends_by r (w || is_colon t.kind) (Does y p (ValueObject x)) n t m) e)
-left_step u (Pattern y) x w t i = at (role t) refl
-  where
-    by : (r : Role) → role t ≡ r → (n : ℕ) (m : List Token) → left u (Pattern y) (suc (length m)) x w n (t ∷ m) ≡ by_pattern r (u + suc (length m)) (w || ends_part t.kind) y x n t m
-    by r e n m = ap (λ (r : Role). by_pattern r (u + suc (length m)) (w || ends_part t.kind) y x n t m) e
-
-    at : (r : Role) → role t ≡ r → Left u (Pattern y) x w t
-    at Assigns e = Leaves (assigns_part t e) (AfterEquals y (Some x), unset u y true, λ n m. by Assigns e n m ∙ ap (λ (z : ℕ). object_in y (Some x) z m) (set_count u y true (length m) n))
-    at Leads_on e = Leaves (goes_part t e) (leave_onto u (Pattern y) x w t (AfterColon (Does y (Some x) NoObject)) (by Leads_on e))
-    at Follows e = Stays (by Follows e)
-    at Touches e = Stays (by Touches e)
-left_step u Subject x w t i = at (role t) refl
-  where
-    b : Bool
-    b = w || (begins false t.kind || ends_part t.kind)
-
-    by : (r : Role) → role t ≡ r → (n : ℕ) (m : List Token) → left u Subject (suc (length m)) x w n (t ∷ m) ≡ by_subject r (u + suc (length m)) b x n t m
-    by r e n m = ap (λ (r : Role). by_subject r (u + suc (length m)) b x n t m) e
-
-    matches : (c : Bool) → begins t.blank_after t.kind ≡ c → role t ≡ Follows → Left u Subject x w t
-    matches true d e =
-        let g = entered u (Pattern x) tt t d in
-        Leaves (some_or (begins false t.kind) (ends_part t.kind) (begins_any t.blank_after t.kind d)) (
-          g.0,
-          g.1,
-          λ n m. by Follows e n m
-              ∙ (ap (λ (c : Bool). if c then matching (u + suc (length m)) x n (telling false (t ∷ m)) else Err (blamed b n (t ∷ m))) d ∙ g.2 n m),
-        )
-    matches false d e = Stays (λ n m. by Follows e n m
-        ∙ ap (λ (c : Bool). if c then matching (u + suc (length m)) x n (telling false (t ∷ m)) else Err (blamed b n (t ∷ m))) d)
-
-    at : (r : Role) → role t ≡ r → Left u Subject x w t
-    at Assigns e = Leaves (or_some (begins false t.kind) (ends_part t.kind) (assigns_part t e))
-        (AfterEquals x None, unset u x false, λ n m. by Assigns e n m ∙ ap (λ (z : ℕ). object_in x None z m) (set_count u x false (length m) n))
-    at Leads_on e = Leaves (or_some (begins false t.kind) (ends_part t.kind) (goes_part t e)) (leave_onto u Subject x w t (AfterColon (Does x None NoObject)) (by Leads_on e))
-    at Follows e = matches (begins t.blank_after t.kind) refl e
-    at Touches e = Stays (by Touches e)
-
--- A STEP
-
-always_then : (b : Body) (x : Result Aim Refusal) → going b (always x) ≡ aim_then (Alone b) x
-always_then b (Err r) = refl
-always_then b (Ok (Aimed t n ts)) = refl
-
-chosen_then : (b : Body) (o : Outcome) (x : Result Aim Refusal) → going b (chosen o x) ≡ aim_then (First b o) x
-chosen_then b o (Err r) = refl
-chosen_then b o (Ok (Aimed t n ts)) = refl
-
-both_then : (b : Body) (o : Outcome) (t : Target) (x : Result Aim Refusal) → going b (both o t x) ≡ aim_then (Second b o t) x
-both_then b o t (Err r) = refl
-both_then b Success t (Ok (Aimed u n ts)) = refl
-both_then b Failure t (Ok (Aimed u n ts)) = refl
-
--- where an expression may begin
-entering : (c : Shape) (u : ℕ) (f : Field) (i : Proper f start) (t : Token) → may c t.kind ≡ (begins false t.kind || false)
-    → ((n : ℕ) (m : List Token) → run c n (t ∷ m) ≡ run (In u f start i) n (t ∷ m)) → Step c t
-entering c u f i t e h = at (read (alone f) start t) refl
-  where
-    fits : may c t.kind ≡ starts_in Bottom t.kind
-    fits = e ∙ (sym (or_false (begins false t.kind)) ∙ sym (start_begins t.kind))
-
-    at : (o : Option State) → read (alone f) start t ≡ o → Step c t
-    at (Some v) d =
-        let g = within u f start v i t d in
-        Goes (fits ∙ taken_fits (alone f) start t.blank_before t.blank_after t.kind v d) (g.0, g.1, λ n m. h n m ∙ g.2 n m)
-    at None d = Stops (λ n m. h n m
-        ∙ (ap (use_told u f (suc (length m)) n) (told_end (alone f) start t m d)
-        ∙ (none_used u f (suc (length m)) n (t ∷ m) (starts_in Bottom t.kind) ∙ ap (λ (x : Bool). Err (blamed x n (t ∷ m))) (sym fits))))
-
-equals_not : (t : Token) → role t ≡ Assigns → (begins false t.kind || is_colon t.kind) ≡ false
-equals_not t e = ap (λ (x : Token). begins false x.kind || is_colon x.kind) (assigns t e)
-
--- behind an expression that takes no more
-onto_left : (u : ℕ) (f : Field) (s : State) (i : Proper f s) (t : Token) (x : Expression) → read (alone f) s t ≡ None → result s ≡ Some x
-    → (n : ℕ) (m : List Token) → run (In u f s i) n (t ∷ m) ≡ left u f (suc (length m)) x (fits_at (alone f) s t.kind) n (t ∷ m)
-onto_left u f s i t x d r n m =
-    ap (use_told u f (suc (length m)) n) (told_end (alone f) s t m d ∙ ap (λ (o : Option Expression). Tells o (t ∷ m) 0 (fits_at (alone f) s t.kind)) r)
-    ∙ some_used u f (suc (length m)) n x (t ∷ m) (fits_at (alone f) s t.kind)
-
-field_step : (u : ℕ) (f : Field) (s : State) (i : Proper f s) (t : Token) → Step (In u f s i) t
-field_step u f s i t = at (read (alone f) s t) refl
+field_step : (u : ℕ) (f : Field) (s : State) (t : Token) → Moves (run (In u f s)) (may (In u f s) t.kind) t
+field_step u f s t = at (read (alone f) s t) refl
   where
     w : Bool
     w = fits_at (alone f) s t.kind
 
-    complete : (x : Expression) → read (alone f) s t ≡ None → result s ≡ Some x → Left u f x w t → Step (In u f s i) t
-    complete x d r (Leaves l g) =
-        Goes (or_some w (is_some (result s) && leaves f t.kind) (ap (λ (o : Option Expression). is_some o && leaves f t.kind) r ∙ l))
-        (g.0, g.1, λ n m. onto_left u f s i t x d r n m ∙ g.2 n m)
-    complete x d r (Stays h) =
-        Stops (λ n m. onto_left u f s i t x d r n m ∙ (h n m ∙ ap (λ (o : Option Expression). Err (blamed (w || (is_some o && leaves f t.kind)) n (t ∷ m))) (sym r)))
+    whole : (o : Option Expression) → result s ≡ o → read (alone f) s t ≡ None → Moves (run (In u f s)) (w || (is_some o && leaves f t.kind)) t
+    whole None r d = Stops (λ n m. stopped u f s t d n m ∙ (ap (λ (o : Option Expression). made (u + length (t ∷ m)) f (Tells o (t ∷ m) n w)) r
+        ∙ (none_used (u + length (t ∷ m)) f n (t ∷ m) w ∙ ap (λ (x : Bool). Err (blamed x n (t ∷ m))) (sym (or_none w)))))
+    whole (Some x) r d = moved (λ n ts. left (u + length ts) f w x n ts) (run (In u f s)) (w || leaves f t.kind) (w || leaves f t.kind) t
+        (λ n m. onto_left u f s t x d r n m) refl (left_moves u f w x t)
 
-    by : (o : Option Expression) → read (alone f) s t ≡ None → result s ≡ o → Step (In u f s i) t
-    by None d r = Stops (λ n m.
-        ap (use_told u f (suc (length m)) n) (told_end (alone f) s t m d ∙ ap (λ (o : Option Expression). Tells o (t ∷ m) 0 w) r)
-        ∙ (none_used u f (suc (length m)) n (t ∷ m) w
-        ∙ ap (λ (x : Bool). Err (blamed x n (t ∷ m))) (or_false w ∙ sym (ap (λ (o : Option Expression). w || (is_some o && leaves f t.kind)) r))))
-    by (Some x) d r = complete x d r (left_step u f x w t (suited f s x i r))
+    at : (o : Option State) → read (alone f) s t ≡ o → Moves (run (In u f s)) (w || (is_some (result s) && leaves f t.kind)) t
+    at (Some v) d = Goes (ap (λ (x : Bool). x || (is_some (result s) && leaves f t.kind)) (taken_fits (alone f) s t.blank_before t.blank_after t.kind v d)) (within u f s v t d)
+    at None d = whole (result s) refl d
 
-    at : (o : Option State) → read (alone f) s t ≡ o → Step (In u f s i) t
-    at (Some v) d = Goes (some_or w (is_some (result s) && leaves f t.kind) (taken_fits (alone f) s t.blank_before t.blank_after t.kind v d)) (within u f s v i t d)
-    at None d = by (result s) d refl
+all : (n : ℕ) → n ≡ 0 + n
+all n = omega arith
 
--- the element of a target
-dollar_proper : (k : Behind) (u : Bool) → Proper (Element k) (At Bottom (Due (Under Indirect Begin)))
-dollar_proper k u ts rest x n w e =
-    let d = sound true (spaced u false (token.Mark Dollar) ∷ ts) rest x (most 0 n) w (lacked_is 0 (told true (At Bottom (Due (Under Indirect Begin))) ts) x rest n w e) in
-    indirect_of x u false d.blank ts rest d.suits d.spells
-
-dollar_goes : (k : Behind) (u : Bool) → GoesTo (InTarget k) (spaced u false (token.Mark Dollar))
-dollar_goes k u = (
-  In 0 (Element k) (At Bottom (Due (Under Indirect Begin))) (dollar_proper k u),
-  None,
-  λ n m. use_lack 0 (Element k) (length m) n 0 (told true (At Bottom (Due (Under Indirect Begin))) m),
-)
-
--- the tokens that go on in a goto, whatever blanks stand round them
-colon_open : (b : Body) (u v : Bool) → GoesTo (AfterColon b) (spaced u v token.Open)
-colon_open b u v = onto (AfterColon b) (InTarget (Alone b)) (spaced u v token.Open) (λ n m. always_then b (inside n m))
-
-colon_outcome : (b : Body) (o : Outcome) (u v : Bool) → GoesTo (AfterColon b) (spaced u v (token.Part (On o)))
-colon_outcome b o u v = onto (AfterColon b) (AfterOutcome (First b o)) (spaced u v (token.Part (On o))) (λ n m. chosen_then b o (target_in n m))
-
-outcome_open : (h : Behind) (u v : Bool) → GoesTo (AfterOutcome h) (spaced u v token.Open)
-outcome_open h u v = onto (AfterOutcome h) (InTarget h) (spaced u v token.Open) (λ n m. refl)
-
-target_label : (h : Behind) (l : List ℕ) (u v : Bool) → GoesTo (InTarget h) (spaced u v (token.Part (Label l)))
-target_label h l u v = onto (InTarget h) (AfterLabel h l) (spaced u v (token.Part (Label l))) (λ n m. refl)
-
-label_close : (h : Behind) (l : List ℕ) (u v : Bool) → GoesTo (AfterLabel h l) (spaced u v token.Close)
-label_close h l u v = onto (AfterLabel h l) (after h (To l)) (spaced u v token.Close) (λ n m. aimed h (To l) n m)
-
-first_failure : (b : Body) (x : Target) (u v : Bool) → GoesTo (AfterFirst b Success x) (spaced u v (token.Part (On Failure)))
-first_failure b x u v = onto (AfterFirst b Success x) (AfterOutcome (Second b Success x)) (spaced u v (token.Part (On Failure))) (λ n m. both_then b Success x (target_in n m))
-
-first_success : (b : Body) (x : Target) (u v : Bool) → GoesTo (AfterFirst b Failure x) (spaced u v (token.Part (On Success)))
-first_success b x u v = onto (AfterFirst b Failure x) (AfterOutcome (Second b Failure x)) (spaced u v (token.Part (On Success))) (λ n m. both_then b Failure x (target_in n m))
-
-colon_step : (b : Body) (u v : Bool) (k : TokenKind) → Step (AfterColon b) (spaced u v k)
-colon_step b u v token.Open = Goes refl (colon_open b u v)
-colon_step b u v (token.Part (On o)) = Goes refl (colon_outcome b o u v)
-colon_step b u v _ = Stops (λ n m. refl)
-
-outcome_step : (h : Behind) (u v : Bool) (k : TokenKind) → Step (AfterOutcome h) (spaced u v k)
-outcome_step h u v token.Open = Goes refl (outcome_open h u v)
-outcome_step h u v _ = Stops (λ n m. refl)
-
-target_step : (h : Behind) (u v : Bool) (k : TokenKind) → Step (InTarget h) (spaced u v k)
-target_step h u v (token.Part (Label l)) = Goes refl (target_label h l u v)
-target_step h u false (token.Mark Dollar) = Goes refl (dollar_goes h u)
-target_step h u true (token.Mark Dollar) = Stops (λ n m. none_used 0 (Element h) 0 n (spaced u true (token.Mark Dollar) ∷ m) true)
-target_step h u v _ = Stops (λ n m. refl)
-
-label_step : (h : Behind) (l : List ℕ) (u v : Bool) (k : TokenKind) → Step (AfterLabel h l) (spaced u v k)
-label_step h l u v token.Close = Goes refl (label_close h l u v)
-label_step h l u v _ = Stops (λ n m. refl)
-
-first_step : (b : Body) (o : Outcome) (x : Target) (u v : Bool) (k : TokenKind) → Step (AfterFirst b o x) (spaced u v k)
-first_step b Success x u v (token.Part (On Failure)) = Goes refl (first_failure b x u v)
-first_step b Failure x u v (token.Part (On Success)) = Goes refl (first_success b x u v)
-first_step b Success x u v _ = Stops (λ n m. refl)
-first_step b Failure x u v _ = Stops (λ n m. refl)
-
-pub step : (c : Shape) (t : Token) → Step c t
-step Start t = at (role t) refl
+begun_step : (t : Token) → Moves (run Start) (begins false t.kind || is_colon t.kind) t
+begun_step t = at (is_colon t.kind) refl
   where
-    by : (r : Role) → role t ≡ r → (n : ℕ) (m : List Token) → run Start n (t ∷ m) ≡ begun_by r (suc (length m)) n t m
-    by r e n m = ap (λ (r : Role). begun_by r (suc (length m)) n t m) e
+    at : (c : Bool) → is_colon t.kind ≡ c → Moves (run Start) (begins false t.kind || is_colon t.kind) t
+    at true e = moved (ending false NoBody) (run Start) (false || is_colon t.kind) (begins false t.kind || is_colon t.kind) t (λ n m. rw e)
+        (rw (e, or_true (begins false t.kind))) (ending_moves false NoBody t)
+    at false e = moved (run (In 0 Subject start)) (run Start) (begins false t.kind) (begins false t.kind || is_colon t.kind) t
+        (λ n m. rw e (ap (λ (z : ℕ). acting z (with_lack n (telling true (t ∷ m)))) (all (length (t ∷ m))))) (rw (e, or_none (begins false t.kind))) (entering 0 Subject t)
 
-    touching : (c : Bool) → is_colon t.kind ≡ c → role t ≡ Touches → Step Start t
-    touching true d e = Stops (λ n m. by Touches e n m
-        ∙ (ap (λ (c : Bool). if c then Err (blamed true n (t ∷ m)) else use_told 0 Subject (suc (length m)) n (telling true (t ∷ m))) d
-        ∙ ap (λ (x : Bool). Err (blamed x n (t ∷ m))) (sym (or_some (begins false t.kind) (is_colon t.kind) d))))
-    touching false d e = entering Start 0 Subject tt t (ap (λ (x : Bool). begins false t.kind || x) d) (λ n m. by Touches e n m
-        ∙ ap (λ (c : Bool). if c then Err (blamed true n (t ∷ m)) else use_told 0 Subject (suc (length m)) n (telling true (t ∷ m))) d)
-
-    at : (r : Role) → role t ≡ r → Step Start t
-    at Assigns e = Stops (λ n m. by Assigns e n m ∙ ap (λ (x : Bool). Err (blamed x n (t ∷ m))) (sym (equals_not t e)))
-    at Leads_on e = Goes (or_some (begins false t.kind) (is_colon t.kind) (goes_colon t e)) (onto Start (AfterColon NoBody) t (by Leads_on e))
-    at Follows e = entering Start 0 Subject tt t (ap (λ (x : Bool). begins false t.kind || x) (no_colon_follows t e)) (by Follows e)
-    at Touches e = touching (is_colon t.kind) refl e
-step (In u f s i) t = field_step u f s i t
-step (AfterEquals y p) t = at (role t) refl
+object_step : (y : Expression) (p : Option Expression) (t : Token) → Moves (run (AfterEquals y p)) (begins false t.kind || is_colon t.kind) t
+object_step y p t = at (t.blank_before && not (is_colon t.kind)) refl
   where
-    by : (r : Role) → role t ≡ r → (n : ℕ) (m : List Token) → run (AfterEquals y p) n (t ∷ m) ≡ by_object r y p n t m
-    by r e n m = ap (λ (r : Role). by_object r y p n t m) e
+    no_colon : (a c : Bool) → (a && not c) ≡ true → c ≡ false
+    no_colon a c e = grind (arith, e)
 
-    at : (r : Role) → role t ≡ r → Step (AfterEquals y p) t
-    at Assigns e = Stops (λ n m. by Assigns e n m ∙ ap (λ (x : Bool). Err (blamed x n (t ∷ m))) (sym (equals_not t e)))
-    at Leads_on e = Goes (or_some (begins false t.kind) (is_colon t.kind) (goes_colon t e)) (onto (AfterEquals y p) (AfterColon (Does y p NullObject)) t (by Leads_on e))
-    at Follows e = entering (AfterEquals y p) 0 (Object y p) tt t (ap (λ (x : Bool). begins false t.kind || x) (no_colon_follows t e)) (by Follows e)
-    at Touches e = Stops (by Touches e)
-step (AfterColon b) t = colon_step b t.blank_before t.blank_after t.kind
-step (AfterOutcome h) t = outcome_step h t.blank_before t.blank_after t.kind
-step (InTarget h) t = target_step h t.blank_before t.blank_after t.kind
-step (AfterLabel h l) t = label_step h l t.blank_before t.blank_after t.kind
-step (AfterFirst b o x) t = first_step b o x t.blank_before t.blank_after t.kind
-step (AfterLast b g) t = Stops (λ n m. refl)
+    at : (c : Bool) → (t.blank_before && not (is_colon t.kind)) ≡ c → Moves (run (AfterEquals y p)) (begins false t.kind || is_colon t.kind) t
+    at true e = moved (run (In 0 (Object y p) start)) (run (AfterEquals y p)) (begins false t.kind) (begins false t.kind || is_colon t.kind) t (λ n m. rw e)
+        (rw (no_colon t.blank_before (is_colon t.kind) e, or_none (begins false t.kind))) (entering 0 (Object y p) t)
+    at false e = moved (ending (begins false t.kind) (Does y p NullObject)) (run (AfterEquals y p)) (begins false t.kind || is_colon t.kind)
+        (begins false t.kind || is_colon t.kind) t (λ n m. rw e) refl (ending_moves (begins false t.kind) (Does y p NullObject) t)
+
+step_by : (c : Shape) (b a : Bool) (k : TokenKind) → Moves (run c) (may c k) (spaced b a k)
+step_by (AfterColon y) b a token.Open = Goes refl (onto (run (AfterColon y)) (spaced b a token.Open) (InTarget (Last y Always)) (λ n m. last_then y Always (inside n m)))
+step_by (AfterColon y) b a (token.Part (On o)) = Goes refl (onto (run (AfterColon y)) (spaced b a (token.Part (On o))) (AfterOutcome (First y o)) (λ n m. chosen_then y o (target_in n m)))
+step_by (AfterColon y) b a _ = Stops (λ n m. refl)
+step_by (AfterOutcome h) b a token.Open = Goes refl (onto (run (AfterOutcome h)) (spaced b a token.Open) (InTarget h) (λ n m. refl))
+step_by (AfterOutcome h) b a _ = Stops (λ n m. refl)
+step_by (InTarget h) b a (token.Part (Label l)) = Goes refl (onto (run (InTarget h)) (spaced b a (token.Part (Label l))) (AfterLabel h l) (λ n m. refl))
+step_by (InTarget h) b false (token.Mark Dollar) = Goes refl (onto (run (InTarget h)) (spaced b false (token.Mark Dollar)) (AfterDollar h) (λ n m. refl))
+step_by (InTarget h) b true (token.Mark Dollar) = Stops (λ n m. refl)
+step_by (InTarget h) b a _ = Stops (λ n m. refl)
+step_by (AfterLabel h l) b a token.Close = Goes refl (onto (run (AfterLabel h l)) (spaced b a token.Close) (after h (To l)) (λ n m. aimed h (To l) n m))
+step_by (AfterLabel h l) b a _ = Stops (λ n m. refl)
+step_by (AfterFirst y o x) b a k = at (is_other o k) refl
+  where
+    at : (c : Bool) → is_other o k ≡ c → Moves (run (AfterFirst y o x)) (is_other o k) (spaced b a k)
+    at true e = Goes e (onto (run (AfterFirst y o x)) (spaced b a k) (AfterOutcome (Last y (pair o x))) (λ n m. rw e (last_then y (pair o x) (target_in n m))))
+    at false e = Stops (λ n m. rw e)
+step_by (AfterLast y g) b a k = Stops (λ n m. refl)
+step_by (AfterDollar h) true a k = Stops (λ n m. refl)
+step_by (AfterDollar h) false a k =
+    moved (run (In 0 (Element h) start)) (run (AfterDollar h)) (begins false k) (begins false k) (spaced false a k) (λ n m. refl) refl (entering 0 (Element h) (spaced false a k))
+step_by Start b a k = begun_step (spaced b a k)
+step_by (AfterEquals y p) b a k = object_step y p (spaced b a k)
+step_by (In u f s) b a k = field_step u f s (spaced b a k)
+
+pub step : (c : Shape) (t : Token) → Moves (run c) (may c t.kind) t
+step c t = step_by c t.blank_before t.blank_after t.kind
 
 -- WITH SOME BLANKS
 
-abbrev pub Some_goes : Shape → TokenKind → Type 0
-Some_goes c k = (b : Bool) × (a : Bool) × GoesTo c (spaced b a k)
+abbrev pub Some_goes : (ℕ → List Token → Result Stated Refusal) → TokenKind → Type 0
+Some_goes g k = (b : Bool) × (a : Bool) × Onto g (spaced b a k)
 
-unor : (x : Bool) → (x || false) ≡ true → x ≡ true
-unor true e = refl
-unor false e = e
+some_ending : (w : Bool) (b : Body) (k : TokenKind) → is_colon k ≡ true → Onto (ending w b) (spaced true false k)
+some_ending w b k e = onto (ending w b) (spaced true false k) (AfterColon b) (λ n m. rw e)
 
-leave_some : (u : ℕ) (f : Field) (x : Expression) (w : Bool) (k : TokenKind) → Suited f x → leaves f k ≡ true → (b : Bool) × (a : Bool) × LeavesTo u f x w (spaced b a k)
-leave_some u (Element h) x w token.Close i l =
-    subst (λ (y : Expression). (b : Bool) × (a : Bool) × LeavesTo u (Element h) y w (spaced b a token.Close)) (sym i.1)
-    (false, false, leave_onto u (Element h) (Unary Indirect i.0) w (spaced false false token.Close) (after h (Computed i.0)) (λ n m. aimed h (Computed i.0) n m))
-leave_some u (Element h) x w _ i l = cc
-leave_some u (Object y p) x w (token.Part Colon) i l =
-    (true, false, leave_onto u (Object y p) x w (spaced true false (token.Part Colon)) (AfterColon (Does y p (ValueObject x))) (λ n m. refl))
-leave_some u (Object y p) x w _ i l = cc
-leave_some u (Pattern y) x w (token.Part Colon) i l =
-    (true, false, leave_onto u (Pattern y) x w (spaced true false (token.Part Colon)) (AfterColon (Does y (Some x) NoObject)) (λ n m. refl))
-leave_some u (Pattern y) x w (token.Part Equals) i l =
-    (true, true, (AfterEquals y (Some x), unset u y true, λ n m. ap (λ (z : ℕ). object_in y (Some x) z m) (set_count u y true (length m) n)))
-leave_some u (Pattern y) x w _ i l = cc
-leave_some u Subject x w (token.Part Colon) i l =
-    (true, false, leave_onto u Subject x w (spaced true false (token.Part Colon)) (AfterColon (Does x None NoObject)) (λ n m. refl))
-leave_some u Subject x w (token.Part Equals) i l =
-    (true, true, (AfterEquals x None, unset u x false, λ n m. ap (λ (z : ℕ). object_in x None z m) (set_count u x false (length m) n)))
-leave_some u Subject x w k i l = (true, false, matched k (unor (begins false k) l))
+some_parted : (u : ℕ) (w : Bool) (y : Expression) (p : Option Expression) (k : TokenKind) → (is_equals k || is_colon k) ≡ true
+    → Some_goes (λ n ts. parted (u + length ts) w y p n ts) k
+some_parted u w y p k e = at (is_equals k) refl e
   where
-    matched : (k : TokenKind) → begins false k ≡ true → LeavesTo u Subject x w (spaced true false k)
-    matched k d =
-        let t = spaced true false k in
-        let b = w || (begins false k || ends_part k) in
-        let g = entered u (Pattern x) tt t d in (
-          g.0,
-          g.1,
-          λ n m. ap (λ (r : Role). by_subject r (u + suc (length m)) b x n t m) (follows k d)
-              ∙ (ap (λ (c : Bool). if c then matching (u + suc (length m)) x n (telling false (t ∷ m)) else Err (blamed b n (t ∷ m))) d ∙ g.2 n m),
-        )
+    at : (c : Bool) → is_equals k ≡ c → (c || is_colon k) ≡ true → Some_goes (λ n ts. parted (u + length ts) w y p n ts) k
+    at true d i = (true, true, (AfterEquals y p, unset u y (is_some p), λ n m. rw d (ap (λ (j : ℕ). object_in y p j m) (set_count u y (is_some p) (length m) n))))
+    at false d i = let g = some_ending w (Does y p NoObject) k i in (true, false, (g.0, g.1, λ n m. rw d (g.2 n m)))
 
-field_some : (u : ℕ) (f : Field) (s : State) (i : Proper f s) (k : TokenKind) → may (In u f s i) k ≡ true → Some_goes (In u f s i) k
-field_some u f s i k e = at (fits_at (alone f) s k) refl
+begins_none : (a : Bool) (k : TokenKind) → begins false k ≡ false → begins a k ≡ false
+begins_none true (token.Mark m) e = refl
+begins_none false (token.Mark m) e = e
+begins_none a _ e = e
+
+and_none : (b : Bool) → (b && false) ≡ false
+and_none b = grind arith
+
+some_left : (u : ℕ) (f : Field) (w : Bool) (x : Expression) (k : TokenKind) → leaves f k ≡ true → Some_goes (λ n ts. left (u + length ts) f w x n ts) k
+some_left u Subject w x k e = at (begins false k) refl e
   where
-    onward_left : (x : Expression) (b a : Bool) (o : Option State) → read (alone f) s (spaced b a k) ≡ o → result s ≡ Some x → LeavesTo u f x (fits_at (alone f) s k) (spaced b a k)
-        → GoesTo (In u f s i) (spaced b a k)
-    onward_left x b a (Some v) d r g = within u f s v i (spaced b a k) d
-    onward_left x b a None d r g = (g.0, g.1, λ n m. onto_left u f s i (spaced b a k) x d r n m ∙ g.2 n m)
+    starting : (n : ℕ) (ts : List Token) {c : Bool} → c ≡ true → (if c then matching (u + length ts) x (with_lack n (telling false ts)) else parted (u + length ts) (w || begins false k) x None n ts)
+        ≡ matching (u + length ts) x (with_lack n (telling false ts))
+    starting n ts e = ap (λ (c : Bool). if c then matching (u + length ts) x (with_lack n (telling false ts)) else parted (u + length ts) (w || begins false k) x None n ts) e
 
-    by : (o : Option Expression) → result s ≡ o → (is_some o && leaves f k) ≡ true → Some_goes (In u f s i) k
+    at : (c : Bool) → begins false k ≡ c → (c || (is_equals k || is_colon k)) ≡ true → Some_goes (λ n ts. subject_then (u + length ts) w x n ts) k
+    at true d i = let g = entered u (Pattern x) (spaced true false k) d in (true, false, (g.0, g.1, λ n m. starting n (spaced true false k ∷ m) d ∙ g.2 n m))
+    at false d i = let g = some_parted u (w || begins false k) x None k i in
+        (g.0, g.1, (g.2.0, g.2.1, λ n m. rw (begins_none g.1 k d, and_none g.0) (g.2.2 n m)))
+some_left u (Pattern y) w x k e = some_parted u w y (Some x) k e
+some_left u (Object y p) w x k e = (true, false, some_ending w (Does y p (ValueObject x)) k e)
+some_left u (Element h) w x token.Close e = (false, false, onto (λ n ts. left (u + length ts) (Element h) w x n ts) (spaced false false token.Close) (after h (Computed x)) (λ n m. aimed h (Computed x) n m))
+some_left u (Element h) w x _ e = cc
+
+field_some : (u : ℕ) (f : Field) (s : State) (k : TokenKind) → may (In u f s) k ≡ true → Some_goes (run (In u f s)) k
+field_some u f s k e = at (fits_at (alone f) s k) refl e
+  where
+    onward : (x : Expression) (b a : Bool) (o : Option State) → read (alone f) s (spaced b a k) ≡ o → result s ≡ Some x
+        → Onto (λ n ts. left (u + length ts) f (fits_at (alone f) s k) x n ts) (spaced b a k) → Onto (run (In u f s)) (spaced b a k)
+    onward x b a (Some v) d r g = within u f s v (spaced b a k) d
+    onward x b a None d r g = (g.0, g.1, λ n m. onto_left u f s (spaced b a k) x d r n m ∙ g.2 n m)
+
+    by : (o : Option Expression) → result s ≡ o → (is_some o && leaves f k) ≡ true → Some_goes (run (In u f s)) k
     by None r l = cc
     by (Some x) r l =
-        let g = leave_some u f x (fits_at (alone f) s k) k (suited f s x i r) l in
-        (g.0, g.1, onward_left x g.0 g.1 (read (alone f) s (spaced g.0 g.1 k)) refl r g.2)
+        let g = some_left u f (fits_at (alone f) s k) x k l in (g.0, g.1, onward x g.0 g.1 (read (alone f) s (spaced g.0 g.1 k)) refl r g.2)
 
-    at : (c : Bool) → fits_at (alone f) s k ≡ c → Some_goes (In u f s i) k
-    at true d = let v = fits_taken (alone f) s k d in (v.0, v.1, within u f s v.2 i (spaced v.0 v.1 k) v.3)
-    at false d = by (result s) refl (sym (ap (λ (c : Bool). c || (is_some (result s) && leaves f k)) d) ∙ e)
+    at : (c : Bool) → fits_at (alone f) s k ≡ c → (c || (is_some (result s) && leaves f k)) ≡ true → Some_goes (run (In u f s)) k
+    at true d i = let v = fits_taken (alone f) s k d in (v.0, v.1, within u f s v.2 (spaced v.0 v.1 k) v.3)
+    at false d i = by (result s) refl i
 
-pub some_goes : (c : Shape) (k : TokenKind) → may c k ≡ true → Some_goes c k
-some_goes Start (token.Part Colon) e = (true, false, onto Start (AfterColon NoBody) (spaced true false (token.Part Colon)) (λ n m. refl))
-some_goes Start k e = (true, false, begun_at k (unor (begins false k) e))
+pub some_goes : (c : Shape) (k : TokenKind) → may c k ≡ true → Some_goes (run c) k
+some_goes Start k e = at (is_colon k) refl e
   where
-    begun_at : (k : TokenKind) → begins false k ≡ true → GoesTo Start (spaced true false k)
-    begun_at k d =
-        let g = entered 0 Subject tt (spaced true false k) d in
-        (g.0, g.1, λ n m. ap (λ (r : Role). begun_by r (suc (length m)) n (spaced true false k) m) (follows k d) ∙ g.2 n m)
-some_goes (In u f s i) k e = field_some u f s i k e
-some_goes (AfterEquals y p) (token.Part Colon) e =
-    (true, false, onto (AfterEquals y p) (AfterColon (Does y p NullObject)) (spaced true false (token.Part Colon)) (λ n m. refl))
-some_goes (AfterEquals y p) k e = (true, false, object_at k (unor (begins false k) e))
+    at : (c : Bool) → is_colon k ≡ c → (begins false k || c) ≡ true → Some_goes (run Start) k
+    at true d i = (true, false, onto (run Start) (spaced true false k) (AfterColon NoBody) (λ n m. rw d))
+    at false d i =
+        let g = entered 0 Subject (spaced true false k) (sym (or_none (begins false k)) ∙ i) in
+        (true, false, (g.0, g.1, λ n m. rw d (ap (λ (z : ℕ). acting z (with_lack n (telling true (spaced true false k ∷ m)))) (all (suc (length m))) ∙ g.2 n m)))
+some_goes (In u f s) k e = field_some u f s k e
+some_goes (AfterEquals y p) k e = at (is_colon k) refl e
   where
-    object_at : (k : TokenKind) → begins false k ≡ true → GoesTo (AfterEquals y p) (spaced true false k)
-    object_at k d =
-        let g = entered 0 (Object y p) tt (spaced true false k) d in
-        (g.0, g.1, λ n m. ap (λ (r : Role). by_object r y p n (spaced true false k) m) (follows k d) ∙ g.2 n m)
-some_goes (AfterColon b) token.Open e = (false, false, colon_open b false false)
-some_goes (AfterColon b) (token.Part (On o)) e = (false, false, colon_outcome b o false false)
+    at : (c : Bool) → is_colon k ≡ c → (begins false k || c) ≡ true → Some_goes (run (AfterEquals y p)) k
+    at true d i = (true, false, onto (run (AfterEquals y p)) (spaced true false k) (AfterColon (Does y p NullObject)) (λ n m. rw d))
+    at false d i =
+        let g = entered 0 (Object y p) (spaced true false k) (sym (or_none (begins false k)) ∙ i) in (true, false, (g.0, g.1, λ n m. rw d (g.2 n m)))
+some_goes (AfterColon b) token.Open e = (false, false, onto (run (AfterColon b)) (spaced false false token.Open) (InTarget (Last b Always)) (λ n m. last_then b Always (inside n m)))
+some_goes (AfterColon b) (token.Part (On o)) e = (false, false, onto (run (AfterColon b)) (spaced false false (token.Part (On o))) (AfterOutcome (First b o)) (λ n m. chosen_then b o (target_in n m)))
 some_goes (AfterColon b) _ e = cc
-some_goes (AfterOutcome h) token.Open e = (false, false, outcome_open h false false)
+some_goes (AfterOutcome h) token.Open e = (false, false, onto (run (AfterOutcome h)) (spaced false false token.Open) (InTarget h) (λ n m. refl))
 some_goes (AfterOutcome h) _ e = cc
-some_goes (InTarget h) (token.Part (Label l)) e = (false, false, target_label h l false false)
-some_goes (InTarget h) (token.Mark Dollar) e = (false, false, dollar_goes h false)
+some_goes (InTarget h) (token.Part (Label l)) e = (false, false, onto (run (InTarget h)) (spaced false false (token.Part (Label l))) (AfterLabel h l) (λ n m. refl))
+some_goes (InTarget h) (token.Mark Dollar) e = (false, false, onto (run (InTarget h)) (spaced false false (token.Mark Dollar)) (AfterDollar h) (λ n m. refl))
 some_goes (InTarget h) _ e = cc
-some_goes (AfterLabel h l) token.Close e = (false, false, label_close h l false false)
+some_goes (AfterDollar h) k e = (false, false, entered 0 (Element h) (spaced false false k) e)
+some_goes (AfterLabel h l) token.Close e = (false, false, onto (run (AfterLabel h l)) (spaced false false token.Close) (after h (To l)) (λ n m. aimed h (To l) n m))
 some_goes (AfterLabel h l) _ e = cc
-some_goes (AfterFirst b Success x) (token.Part (On Failure)) e = (false, false, first_failure b x false false)
-some_goes (AfterFirst b Failure x) (token.Part (On Success)) e = (false, false, first_success b x false false)
-some_goes (AfterFirst b Success x) _ e = cc
-some_goes (AfterFirst b Failure x) _ e = cc
+some_goes (AfterFirst b o x) k e = (false, false, onto (run (AfterFirst b o x)) (spaced false false k) (AfterOutcome (Last b (pair o x))) (λ n m. rw e (last_then b (pair o x) (target_in n m))))
 some_goes (AfterLast b g) k e = cc
 
 -- THE END
 
-pub data Ending (c : Shape) : Type 0 where
-  Ends : ((n : ℕ) → (s : Statement) × (run c n [] ≡ Ok (States s n))) → Ending c
-  Unended : ((n : ℕ) → run c n [] ≡ Err (blamed false n [])) → Ending c
+pub data Ending (g : ℕ → List Token → Result Stated Refusal) : Type 0 where
+  Ends : ((n : ℕ) → (s : Statement) × (g n [] ≡ Ok (States s n))) → Ending g
+  Unended : ((n : ℕ) → g n [] ≡ Err (blamed false n [])) → Ending g
 
-field_ending : (u : ℕ) (f : Field) (s : State) (i : Proper f s) → Ending (In u f s i)
-field_ending u f s i = at (result s) refl
+ends_as : (g h : ℕ → List Token → Result Stated Refusal) → ((n : ℕ) → h n [] ≡ g n []) → Ending g → Ending h
+ends_as g h e (Ends x) = Ends (λ n. let y = x n in (y.0, e n ∙ y.1))
+ends_as g h e (Unended x) = Unended (λ n. e n ∙ x n)
+
+left_ending : (z : ℕ) (f : Field) (x : Expression) → Ending (left z f false x)
+left_ending z Subject x = Ends (λ n. (Says (Does x None NoObject) NoGoto, refl))
+left_ending z (Pattern y) x = Ends (λ n. (Says (Does y (Some x) NoObject) NoGoto, refl))
+left_ending z (Object y p) x = Ends (λ n. (Says (Does y p (ValueObject x)) NoGoto, refl))
+left_ending z (Element k) x = Unended (λ n. refl)
+
+field_ending : (z : ℕ) (f : Field) (s : State) → Ending (λ n ts. made z f (with_lack n (told (alone f) s ts)))
+field_ending z f s = at (result s) refl
   where
-    onto_end : (o : Option Expression) → result s ≡ o → (n : ℕ) → run (In u f s i) n [] ≡ use_told u f 0 n (Tells o [] 0 false)
-    onto_end o r n = ap (λ (o : Option Expression). use_told u f 0 n (Tells o [] 0 false)) r
+    end : (o : Option Expression) → result s ≡ o → (n : ℕ) → made z f (with_lack n (told (alone f) s [])) ≡ made z f (Tells o [] n false)
+    end o r n = ap₂ (λ (q : Option Expression) (k : ℕ). made z f (Tells q [] k false)) r (most_none n)
 
-    by : (f : Field) (x : Expression) → Suited f x → ((n : ℕ) → (s : Statement) × (left u f 0 x false n [] ≡ Ok (States s n))) ⊎ ((n : ℕ) → left u f 0 x false n [] ≡ Err (blamed false n []))
-    by Subject x j = inl (λ n. (Says (Does x None NoObject) NoGoto, refl))
-    by (Pattern y) x j = inl (λ n. (Says (Does y (Some x) NoObject) NoGoto, refl))
-    by (Object y p) x j = inl (λ n. (Says (Does y p (ValueObject x)) NoGoto, refl))
-    by (Element k) x j = inr (λ n. ap (λ (y : Expression). aim_then k (indirect false (Some y) n [])) j.1)
+    at : (o : Option Expression) → result s ≡ o → Ending (λ n ts. made z f (with_lack n (told (alone f) s ts)))
+    at None r = Unended (λ n. end None r n ∙ none_used z f n [] false)
+    at (Some x) r = ends_as (left z f false x) _ (λ n. end (Some x) r n ∙ some_used z f n x [] false) (left_ending z f x)
 
-    complete : (x : Expression) → result s ≡ Some x
-        → ((n : ℕ) → (s : Statement) × (left u f 0 x false n [] ≡ Ok (States s n))) ⊎ ((n : ℕ) → left u f 0 x false n [] ≡ Err (blamed false n [])) → Ending (In u f s i)
-    complete x r (inl h) = Ends (λ n. let y = h n in (y.0, onto_end (Some x) r n ∙ (some_used u f 0 n x [] false ∙ y.1)))
-    complete x r (inr h) = Unended (λ n. onto_end (Some x) r n ∙ (some_used u f 0 n x [] false ∙ h n))
-
-    at : (o : Option Expression) → result s ≡ o → Ending (In u f s i)
-    at None r = Unended (λ n. onto_end None r n ∙ none_used u f 0 n [] false)
-    at (Some x) r = complete x r (by f x (suited f s x i r))
-
-pub ending_of : (c : Shape) → Ending c
+pub ending_of : (c : Shape) → Ending (run c)
 ending_of Start = Ends (λ n. (Says NoBody NoGoto, refl))
-ending_of (In u f s i) = field_ending u f s i
+ending_of (In u f s) = ends_as (λ n ts. made (u + 0) f (with_lack n (told (alone f) s ts))) (run (In u f s)) (λ n. refl) (field_ending (u + 0) f s)
 ending_of (AfterEquals y p) = Ends (λ n. (Says (Does y p NullObject) NoGoto, refl))
-ending_of (AfterColon b) = Unended (λ n. refl)
-ending_of (AfterOutcome h) = Unended (λ n. refl)
-ending_of (InTarget h) = Unended (λ n. refl)
-ending_of (AfterLabel h l) = Unended (λ n. refl)
 ending_of (AfterFirst b o x) = Ends (λ n. (Says b (on_one o x), refl))
 ending_of (AfterLast b g) = Ends (λ n. (Says b g, refl))
+ending_of _ = Unended (λ n. refl)
 
 -- each shape can be read on to a statement that lacks nothing more
 target_ends : (h : Behind) (t : Target) (n : ℕ) → (s : Statement) × (aim_then h (Ok (Aimed t n [])) ≡ Ok (States s n))
-target_ends (Alone b) t n = (Says b (Always t), refl)
+target_ends (Last b g) t n = (Says b (g t), refl)
 target_ends (First b o) t n = (Says b (on_one o t), refl)
-target_ends (Second b o u) t n = (Says b (pair o u t), refl)
 
 abbrev a_label : List Token
 a_label = spaced false false (token.Part (Label [])) ∷ parenthesis ∷ []
@@ -707,48 +523,46 @@ abbrev closes : Field → Bool
 closes (Element h) = true
 closes _ = false
 
-left_ends : (u : ℕ) (f : Field) (l : ℕ) (x : Expression) (w : Bool) (n : ℕ) → Suited f x → (s : Statement) × (left u f l x w n (tail (closes f)) ≡ Ok (States s n))
-left_ends u Subject l x w n j = (Says (Does x None NoObject) NoGoto, refl)
-left_ends u (Pattern y) l x w n j = (Says (Does y (Some x) NoObject) NoGoto, refl)
-left_ends u (Object y p) l x w n j = (Says (Does y p (ValueObject x)) NoGoto, refl)
-left_ends u (Element h) l x w n j =
-    let y = target_ends h (Computed j.0) n in (y.0, ap (λ (z : Expression). aim_then h (indirect w (Some z) n (tail true))) j.1 ∙ y.1)
+left_ends : (z : ℕ) (f : Field) (x : Expression) (w : Bool) (n : ℕ) → (s : Statement) × (left z f w x n (tail (closes f)) ≡ Ok (States s n))
+left_ends z Subject x w n = (Says (Does x None NoObject) NoGoto, refl)
+left_ends z (Pattern y) x w n = (Says (Does y (Some x) NoObject) NoGoto, refl)
+left_ends z (Object y p) x w n = (Says (Does y p (ValueObject x)) NoGoto, refl)
+left_ends z (Element h) x w n = target_ends h (Computed x) n
 
-field_completes : (u : ℕ) (f : Field) (s : State) (i : Proper f s) → Completes (In u f s i)
-field_completes u f s i =
+abbrev field_completes : (u : ℕ) (f : Field) (s : State) → Completes (In u f s)
+field_completes u f s =
     let x = state_ends s (alone f) (closes f) in
     let m = completion s ++ tail (closes f) in
-    let j = told_suited f s m (tail (closes f)) x.0 0 x.1 i x.2 in
-    (m, λ n. let y = left_ends u f (length m) x.0 x.1 n j in (y.0, ap (use_told u f (length m) n) x.2 ∙ (some_used u f (length m) n x.0 (tail (closes f)) x.1 ∙ y.1)))
+    let z = u + length m in
+    let e = λ (n : ℕ). ap (λ (q : Told). made z f (with_lack n q)) x.2
+    ∙ (ap (λ (k : ℕ). made z f (Tells (Some x.0) (tail (closes f)) k x.1)) (most_none n) ∙ some_used z f n x.0 (tail (closes f)) x.1) in
+    (m, λ n. let y = left_ends z f x.0 x.1 n in (y.0, e n ∙ y.1))
 
 pub completes : (c : Shape) → Completes c
 completes Start = ([], λ n. (Says NoBody NoGoto, refl))
-completes (In u f s i) = field_completes u f s i
+completes (In u f s) = field_completes u f s
 completes (AfterEquals y p) = ([], λ n. (Says (Does y p NullObject) NoGoto, refl))
 completes (AfterColon b) = (opening ∷ a_label, λ n. (Says b (Always (To [])), refl))
 completes (AfterOutcome h) = (opening ∷ a_label, λ n. target_ends h (To []) n)
 completes (InTarget h) = (a_label, λ n. target_ends h (To []) n)
+completes (AfterDollar h) = let c = field_completes 0 (Element h) start in (c.0, c.1)
 completes (AfterLabel h l) = (parenthesis ∷ [], λ n. target_ends h (To l) n)
 completes (AfterFirst b o x) = ([], λ n. (Says b (on_one o x), refl))
 completes (AfterLast b g) = ([], λ n. (Says b g, refl))
 
 -- the leftmost place that lacks a variable never goes to the right
 most_grows : (a b : ℕ) → a ≤ most a b
-most_grows a b = at (nat_le a b) refl
-  where
-    at : (x : Bool) → nat_le a b ≡ x → a ≤ (if x then b else a)
-    at true e = leb-true a b e
-    at false e = omega arith
+most_grows a b = grind (arith, nat_tests)
 
 pub grows : (m : List Token) (c : Shape) (n k : ℕ) (s : Statement) → run c n m ≡ Ok (States s k) → n ≤ k
 grows [] c n k s e = at (ending_of c)
   where
-    at : Ending c → n ≤ k
+    at : Ending (run c) → n ≤ k
     at (Ends h) = let x = h n in let d : n ≡ k = cc (x.1, e) in omega (arith, d)
     at (Unended h) = cc (h n, e)
 grows (t ∷ m) c n k s e = at (step c t) (λ d i h. grows m d i k s h)
   where
-    at : Step c t → ((d : Shape) (i : ℕ) → run d i m ≡ Ok (States s k) → i ≤ k) → n ≤ k
+    at : Moves (run c) (may c t.kind) t → ((d : Shape) (i : ℕ) → run d i m ≡ Ok (States s k) → i ≤ k) → n ≤ k
     at (Goes x g) on =
         let h = on g.0 (most n (count g.1 (length m))) (sym (g.2 n m) ∙ e) in
         let l = most_grows n (count g.1 (length m)) in

@@ -5,7 +5,6 @@ mod fault;
 pub mod laws;
 mod parser;
 mod parsing;
-mod role;
 mod statement;
 
 pub use fault::{Fault, FaultKind};

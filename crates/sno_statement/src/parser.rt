@@ -1,22 +1,23 @@
 //! A statement read part by part, each part as far as it goes: in one pass its trees, the leftmost place that lacks a
 //! variable, and where the tokens go no further, why.
 
-ghost use Rattle.std.specs.Prelude.{◌≡◌, IfOk, Some, Ok, true, false, length};
+ghost use Rattle.std.specs.Prelude.{◌≡◌, IfOk, Ok, true, false, length};
 ghost use Rattle.sno_expression.specs.Abstraction.{expression_of, expressions_of};
-ghost use Rattle.sno_expression.specs.inner.Telling.{telling};
+ghost use Rattle.sno_expression.specs.inner.Telling.{Tells, with_lack, telling};
 ghost use Rattle.sno_statement.specs.Statements as the;
-ghost use Rattle.sno_statement.specs.inner.Parsing.{blamed, closing, indirect, computed, inside, target_in, at_last, always, both, next};
-ghost use Rattle.sno_statement.specs.inner.Parsing.{chosen, goto_in, going, States, is_colon, ends_part, ending, set, giving, object_in};
-ghost use Rattle.sno_statement.specs.inner.Parsing.{pattern_then, matching, subject_then, acting, statement_in};
+ghost use Rattle.sno_statement.specs.inner.Parsing.{blamed, closing, computed, element, inside, target_in, at_last, is_other, next, goto_in};
+ghost use Rattle.sno_statement.specs.inner.Parsing.{States, is_colon, is_equals, ending, set, giving, object_in, parted, matching, subject_then, acting, begun};
 ghost use Rattle.sno_statement.specs.Abstraction.{target_of, goto_of, object_of, body_of};
-ghost use Rattle.sno_statement.specs.inner.Told.{aims_of, ways_of, stated_of};
+ghost use Rattle.sno_statement.specs.inner.Told.{aims_of, stated_of};
 
 use crate::fault::FaultKind;
-use crate::role::{Role, role_of};
 use crate::statement::{Body, Goto, Object, Statement, Target};
 use sno_expression::{Expression, Found, Rest, UnaryOperator, begins, most, read_expression};
 use sno_lexer::{Mark, Outcome, Part, Token, TokenKind};
 use std::alloc::{AllocError, Global};
+
+/// What was read, or why nothing was.
+type Read<X> = Result<Result<X, Refusal>, AllocError>;
 
 /// Why tokens are read as no statement. A place is told by the number of tokens from it on.
 #[derive(Clone, Copy)]
@@ -32,15 +33,7 @@ pub struct Refusal {
 #[derive(Drop)]
 pub struct Aim<'a, 't> {
     pub target: Target,
-    pub lacking: usize,
-    pub rest: &'a [Token<'t>],
-}
-
-/// A goto, and the leftmost place so far that lacks a variable, or 0.
-#[derive(Drop)]
-pub struct Way {
-    pub goto: Goto,
-    pub lacking: usize,
+    pub rest: Rest<'a, 't>,
 }
 
 /// A statement that was read, and its leftmost place that lacks a variable, or 0.
@@ -51,12 +44,12 @@ pub struct Stated {
 }
 
 // The first of the tokens does not fit; with other blanks it would, or not.
-fn refused(blank: bool, lacking: usize, tokens: &[Token]) -> Refusal
-    ensures { result ≡ blamed blank lacking tokens.now }
+fn refused(blank: bool, at: Rest) -> Refusal
+    ensures { result ≡ blamed blank at.entry.lacking at.entry.tokens.now }
 {
     Refusal {
-        lacking,
-        left: tokens.len(),
+        lacking: at.lacking,
+        left: at.tokens.len(),
         kind: if blank {
             FaultKind::MissingBlank
         } else {
@@ -65,218 +58,186 @@ fn refused(blank: bool, lacking: usize, tokens: &[Token]) -> Refusal
     }
 }
 
-fn closing<'a, 't>(
-    blank: bool,
-    target: Target,
-    lacking: usize,
-    tokens: &'a [Token<'t>],
-) -> Result<Aim<'a, 't>, Refusal>
-    ensures { aims_of result ≡ closing blank (target_of target) lacking tokens.now }
+// The tokens behind one that was taken.
+fn onto<'a, 't>(at: Rest, tokens: &'a [Token<'t>]) -> Rest<'a, 't>
+    ensures tokens { result.tokens.now ≡ tokens.now }
+    ensures lacking { result.lacking ≡ at.entry.lacking }
+    ensures blank { result.blank ≡ false }
 {
-    match tokens.split_first() {
-        None => Err(refused(false, lacking, tokens)),
+    Rest {
+        tokens,
+        lacking: at.lacking,
+        blank: false,
+    }
+}
+
+// An expression, or one element, with the leftmost place up to its end that lacks a variable.
+fn expression<'a, 't>(
+    alloc: Global,
+    alone: bool,
+    at: Rest<'a, 't>,
+) -> Result<Found<'a, 't>, AllocError>
+    ensures { IfOk result (λ found. with_lack at.entry.lacking (telling alone at.entry.tokens.now)
+        ≡ Tells (expressions_of found.tree) found.rest.tokens.now found.rest.lacking found.rest.blank) }
+{
+    let Found { tree, rest } = read_expression(alloc, alone, at.tokens)?;
+    let lacking = most(at.lacking, rest.lacking);
+    Ok(Found {
+        tree,
+        rest: Rest { lacking, ..rest },
+    })
+}
+
+fn closing<'a, 't>(target: Target, at: Rest<'a, 't>) -> Result<Aim<'a, 't>, Refusal>
+    ensures { aims_of result ≡ closing at.entry.blank (target_of target) at.entry.lacking at.entry.tokens.now }
+{
+    match at.tokens.split_first() {
+        None => Err(refused(at.blank, at)),
         Some((token, rest)) => match &token.kind {
             TokenKind::Close => Ok(Aim {
                 target,
-                lacking,
-                rest,
+                rest: onto(at, rest),
             }),
-            _ => Err(refused(blank, lacking, tokens)),
+            _ => Err(refused(at.blank, at)),
         },
     }
 }
 
-#[tactic(auto, using(sno_expression::proofs::Runs::binary_is))]
-fn indirect<'a, 't>(
-    blank: bool,
-    tree: Expression,
-    lacking: usize,
-    tokens: &'a [Token<'t>],
-) -> Result<Aim<'a, 't>, Refusal>
-    ensures { aims_of result ≡ indirect blank (Some (expression_of tree)) lacking tokens.now }
+fn computed<'a, 't>(alloc: Global, at: Rest<'a, 't>) -> Read<Aim<'a, 't>>
+    ensures { IfOk result (λ a. aims_of a ≡ computed (with_lack at.entry.lacking (telling true at.entry.tokens.now))) }
 {
+    let Found { tree, rest } = expression(alloc, true, at)?;
     match tree {
-        Expression::Unary(UnaryOperator::Indirect, element) => {
-            let target = Target::Computed(Box::into_inner(element));
-            closing(blank, target, lacking, tokens)
-        }
-        _ => Err(refused(blank, lacking, tokens)),
+        None => Ok(Err(refused(rest.blank, rest))),
+        Some(tree) => Ok(closing(Target::Computed(tree), rest)),
     }
 }
 
-fn computed<'a, 't>(
-    alloc: Global,
-    lacking: usize,
-    tokens: &'a [Token<'t>],
-) -> Result<Result<Aim<'a, 't>, Refusal>, AllocError>
-    ensures { IfOk result (λ a. aims_of a ≡ computed lacking (telling true tokens.now)) }
+// Behind the `$` of a target.
+fn element<'a, 't>(alloc: Global, at: Rest<'a, 't>) -> Read<Aim<'a, 't>>
+    ensures { IfOk result (λ a. aims_of a ≡ element at.entry.lacking at.entry.tokens.now) }
 {
-    let Found { tree, rest } = read_expression(alloc, true, tokens)?;
-    let lacking = most(lacking, rest.lacking);
-    match tree {
-        None => Ok(Err(refused(rest.blank, lacking, rest.tokens))),
-        Some(tree) => Ok(indirect(rest.blank, tree, lacking, rest.tokens)),
+    let Some((token, _)) = at.tokens.split_first() else {
+        return Ok(Err(refused(false, at)));
+    };
+    if token.blank_before {
+        return Ok(Err(refused(begins(false, &token.kind), at)));
     }
+    computed(alloc, at)
 }
 
 // Behind the parenthesis of a target.
-fn inside<'a, 't>(
-    alloc: Global,
-    lacking: usize,
-    tokens: &'a [Token<'t>],
-) -> Result<Result<Aim<'a, 't>, Refusal>, AllocError>
-    ensures { IfOk result (λ a. aims_of a ≡ inside lacking tokens.now) }
+fn inside<'a, 't>(alloc: Global, at: Rest<'a, 't>) -> Read<Aim<'a, 't>>
+    ensures { IfOk result (λ a. aims_of a ≡ inside at.entry.lacking at.entry.tokens.now) }
 {
-    match tokens.split_first() {
-        None => Ok(Err(refused(false, lacking, tokens))),
-        Some((token, rest)) => match &token.kind {
-            TokenKind::Part(Part::Label(label)) => {
-                let label = label.line(alloc)?;
-                Ok(closing(false, Target::Label(label), lacking, rest))
+    let Some((token, rest)) = at.tokens.split_first() else {
+        return Ok(Err(refused(false, at)));
+    };
+    match &token.kind {
+        TokenKind::Part(Part::Label(label)) => {
+            let label = label.line(alloc)?;
+            Ok(closing(Target::Label(label), onto(at, rest)))
+        }
+        TokenKind::Mark(Mark::Dollar) => {
+            if token.blank_after {
+                return Ok(Err(refused(true, at)));
             }
-            TokenKind::Mark(Mark::Dollar) => computed(alloc, lacking, tokens),
-            _ => Ok(Err(refused(false, lacking, tokens))),
-        },
+            element(alloc, onto(at, rest))
+        }
+        _ => Ok(Err(refused(false, at))),
     }
 }
 
-fn target_in<'a, 't>(
-    alloc: Global,
-    lacking: usize,
-    tokens: &'a [Token<'t>],
-) -> Result<Result<Aim<'a, 't>, Refusal>, AllocError>
-    ensures { IfOk result (λ a. aims_of a ≡ target_in lacking tokens.now) }
+fn target_in<'a, 't>(alloc: Global, at: Rest<'a, 't>) -> Read<Aim<'a, 't>>
+    ensures { IfOk result (λ a. aims_of a ≡ target_in at.entry.lacking at.entry.tokens.now) }
 {
-    match tokens.split_first() {
-        None => Ok(Err(refused(false, lacking, tokens))),
-        Some((token, rest)) => match &token.kind {
-            TokenKind::Open => inside(alloc, lacking, rest),
-            _ => Ok(Err(refused(false, lacking, tokens))),
-        },
+    let Some((token, rest)) = at.tokens.split_first() else {
+        return Ok(Err(refused(false, at)));
+    };
+    match &token.kind {
+        TokenKind::Open => inside(alloc, onto(at, rest)),
+        _ => Ok(Err(refused(false, at))),
+    }
+}
+
+fn said(body: Option<Body>, goto: Goto, lacking: usize) -> Stated
+    ensures { stated_of (Ok result) ≡ Ok (States (the.Says (body_of body) (goto_of goto)) lacking) }
+{
+    Stated {
+        statement: Statement { body, goto },
+        lacking,
     }
 }
 
 // Behind the last target.
-fn at_last(goto: Goto, lacking: usize, tokens: &[Token]) -> Result<Way, Refusal>
-    ensures { ways_of result ≡ at_last (goto_of goto) lacking tokens.now }
+fn at_last(body: Option<Body>, goto: Goto, at: Rest) -> Result<Stated, Refusal>
+    ensures { stated_of result ≡ at_last (body_of body) (goto_of goto) at.entry.lacking at.entry.tokens.now }
 {
-    match tokens.split_first() {
-        None => Ok(Way { goto, lacking }),
-        Some(_) => Err(refused(false, lacking, tokens)),
+    match at.tokens.split_first() {
+        None => Ok(said(body, goto, at.lacking)),
+        Some(_) => Err(refused(false, at)),
     }
 }
 
-fn always(
-    alloc: Global,
-    lacking: usize,
-    tokens: &[Token],
-) -> Result<Result<Way, Refusal>, AllocError>
-    ensures { IfOk result (λ g. ways_of g ≡ always (inside lacking tokens.now)) }
+fn is_other(outcome: Outcome, kind: &TokenKind) -> bool
+    ensures { result ≡ is_other outcome kind.now }
 {
-    match inside(alloc, lacking, tokens)? {
-        Err(refusal) => Ok(Err(refusal)),
-        Ok(aim) => Ok(at_last(Goto::Always(aim.target), aim.lacking, aim.rest)),
-    }
-}
-
-// The second target, of the outcome that the first is not of.
-fn both(
-    alloc: Global,
-    outcome: Outcome,
-    first: Target,
-    lacking: usize,
-    tokens: &[Token],
-) -> Result<Result<Way, Refusal>, AllocError>
-    ensures { IfOk result (λ g. ways_of g ≡ both outcome (target_of first) (target_in lacking tokens.now)) }
-{
-    match target_in(alloc, lacking, tokens)? {
-        Err(refusal) => Ok(Err(refusal)),
-        Ok(aim) => {
-            let goto = match outcome {
-                Outcome::Success => Goto::OnBoth(first, aim.target),
-                Outcome::Failure => Goto::OnBoth(aim.target, first),
-            };
-            Ok(at_last(goto, aim.lacking, aim.rest))
-        }
+    match (outcome, kind) {
+        (Outcome::Success, TokenKind::Part(Part::On(Outcome::Failure))) => true,
+        (Outcome::Failure, TokenKind::Part(Part::On(Outcome::Success))) => true,
+        _ => false,
     }
 }
 
 // Behind the target of the first outcome.
 fn next(
     alloc: Global,
+    body: Option<Body>,
     outcome: Outcome,
-    target: Target,
-    lacking: usize,
-    tokens: &[Token],
-) -> Result<Result<Way, Refusal>, AllocError>
-    ensures { IfOk result (λ g. ways_of g ≡ next outcome (target_of target) lacking tokens.now) }
+    first: Target,
+    at: Rest,
+) -> Read<Stated>
+    ensures { IfOk result (λ s. stated_of s ≡ next (body_of body) outcome (target_of first) at.entry.lacking at.entry.tokens.now) }
 {
-    match tokens.split_first() {
-        None => {
-            let goto = match outcome {
-                Outcome::Success => Goto::OnSuccess(target),
-                Outcome::Failure => Goto::OnFailure(target),
-            };
-            Ok(Ok(Way { goto, lacking }))
-        }
-        Some((token, rest)) => match (outcome, &token.kind) {
-            (Outcome::Success, TokenKind::Part(Part::On(Outcome::Failure))) => {
-                both(alloc, Outcome::Success, target, lacking, rest)
-            }
-            (Outcome::Failure, TokenKind::Part(Part::On(Outcome::Success))) => {
-                both(alloc, Outcome::Failure, target, lacking, rest)
-            }
-            _ => Ok(Err(refused(false, lacking, tokens))),
-        },
+    let Some((token, rest)) = at.tokens.split_first() else {
+        let goto = match outcome {
+            Outcome::Success => Goto::OnSuccess(first),
+            Outcome::Failure => Goto::OnFailure(first),
+        };
+        return Ok(Ok(said(body, goto, at.lacking)));
+    };
+    if !is_other(outcome, &token.kind) {
+        return Ok(Err(refused(false, at)));
     }
-}
-
-fn chosen(
-    alloc: Global,
-    outcome: Outcome,
-    lacking: usize,
-    tokens: &[Token],
-) -> Result<Result<Way, Refusal>, AllocError>
-    ensures { IfOk result (λ g. ways_of g ≡ chosen outcome (target_in lacking tokens.now)) }
-{
-    match target_in(alloc, lacking, tokens)? {
+    match target_in(alloc, onto(at, rest))? {
         Err(refusal) => Ok(Err(refusal)),
-        Ok(aim) => next(alloc, outcome, aim.target, aim.lacking, aim.rest),
+        Ok(aim) => {
+            let goto = match outcome {
+                Outcome::Success => Goto::OnBoth(first, aim.target),
+                Outcome::Failure => Goto::OnBoth(aim.target, first),
+            };
+            Ok(at_last(body, goto, aim.rest))
+        }
     }
 }
 
 // Behind `:`.
-fn goto_in(
-    alloc: Global,
-    lacking: usize,
-    tokens: &[Token],
-) -> Result<Result<Way, Refusal>, AllocError>
-    ensures { IfOk result (λ g. ways_of g ≡ goto_in lacking tokens.now) }
+fn goto_in(alloc: Global, body: Option<Body>, at: Rest) -> Read<Stated>
+    ensures { IfOk result (λ s. stated_of s ≡ goto_in (body_of body) at.entry.lacking at.entry.tokens.now) }
 {
-    match tokens.split_first() {
-        None => Ok(Err(refused(false, lacking, tokens))),
-        Some((token, rest)) => match &token.kind {
-            TokenKind::Open => always(alloc, lacking, rest),
-            TokenKind::Part(Part::On(outcome)) => chosen(alloc, *outcome, lacking, rest),
-            _ => Ok(Err(refused(false, lacking, tokens))),
+    let Some((token, rest)) = at.tokens.split_first() else {
+        return Ok(Err(refused(false, at)));
+    };
+    match &token.kind {
+        TokenKind::Open => match inside(alloc, onto(at, rest))? {
+            Err(refusal) => Ok(Err(refusal)),
+            Ok(aim) => Ok(at_last(body, Goto::Always(aim.target), aim.rest)),
         },
-    }
-}
-
-fn going(
-    alloc: Global,
-    body: Option<Body>,
-    lacking: usize,
-    tokens: &[Token],
-) -> Result<Result<Stated, Refusal>, AllocError>
-    ensures { IfOk result (λ s. stated_of s ≡ going (body_of body) (goto_in lacking tokens.now)) }
-{
-    match goto_in(alloc, lacking, tokens)? {
-        Err(refusal) => Ok(Err(refusal)),
-        Ok(Way { goto, lacking }) => Ok(Ok(Stated {
-            statement: Statement { body, goto },
-            lacking,
-        })),
+        TokenKind::Part(Part::On(outcome)) => match target_in(alloc, onto(at, rest))? {
+            Err(refusal) => Ok(Err(refusal)),
+            Ok(aim) => next(alloc, body, *outcome, aim.target, aim.rest),
+        },
+        _ => Ok(Err(refused(false, at))),
     }
 }
 
@@ -290,75 +251,44 @@ fn body_with(subject: Expression, pattern: Option<Expression>, object: Object) -
     })
 }
 
-// The tokens end, and the body is the last part.
-fn ended(body: Option<Body>, lacking: usize) -> Stated
-    ensures { stated_of (Ok result) ≡ Ok (States (the.Says (body_of body) the.NoGoto) lacking) }
-{
-    Stated {
-        statement: Statement {
-            body,
-            goto: Goto::Next,
-        },
-        lacking,
-    }
-}
-
 fn is_colon(kind: &TokenKind) -> bool
     ensures { result ≡ is_colon kind.now }
 {
-    match kind {
-        TokenKind::Part(Part::Colon) => true,
-        _ => false,
+    matches!(kind, TokenKind::Part(Part::Colon))
+}
+
+fn is_equals(kind: &TokenKind) -> bool
+    ensures { result ≡ is_equals kind.now }
+{
+    matches!(kind, TokenKind::Part(Part::Equals))
+}
+
+// Behind a body; whether the token would be taken with other blanks is told.
+fn ending(alloc: Global, body: Option<Body>, blank: bool, at: Rest) -> Read<Stated>
+    ensures { IfOk result (λ s. stated_of s ≡ ending blank (body_of body) at.entry.lacking at.entry.tokens.now) }
+{
+    let Some((token, rest)) = at.tokens.split_first() else {
+        return Ok(Ok(said(body, Goto::Next, at.lacking)));
+    };
+    if !is_colon(&token.kind) {
+        Ok(Err(refused(blank, at)))
+    } else if token.blank_before {
+        goto_in(alloc, body, onto(at, rest))
+    } else {
+        Ok(Err(refused(true, at)))
     }
 }
 
-// Whether the token stands behind a part, with the right blanks round it.
-fn ends_part(kind: &TokenKind) -> bool
-    ensures { result ≡ ends_part kind.now }
+fn giving(alloc: Global, subject: Expression, pattern: Option<Expression>, at: Rest) -> Read<Stated>
+    ensures { IfOk result (λ s. stated_of s
+        ≡ giving (expression_of subject) (expressions_of pattern) (with_lack at.entry.lacking (telling false at.entry.tokens.now))) }
 {
-    match kind {
-        TokenKind::Part(Part::Colon | Part::Equals) => true,
-        _ => false,
-    }
-}
-
-// Behind the object.
-fn ending(
-    alloc: Global,
-    body: Option<Body>,
-    rest: Rest,
-) -> Result<Result<Stated, Refusal>, AllocError>
-    ensures { IfOk result (λ s. stated_of s ≡ ending rest.entry.blank (body_of body) rest.entry.lacking rest.entry.tokens.now) }
-{
-    match rest.tokens.split_first() {
-        None => Ok(Ok(ended(body, rest.lacking))),
-        Some((token, behind)) => match role_of(token) {
-            Role::Goes => going(alloc, body, rest.lacking, behind),
-            Role::Assigns | Role::Follows | Role::Touches => Ok(Err(refused(
-                rest.blank || is_colon(&token.kind),
-                rest.lacking,
-                rest.tokens,
-            ))),
-        },
-    }
-}
-
-fn giving(
-    alloc: Global,
-    subject: Expression,
-    pattern: Option<Expression>,
-    lacking: usize,
-    tokens: &[Token],
-) -> Result<Result<Stated, Refusal>, AllocError>
-    ensures { IfOk result (λ s. stated_of s ≡ giving (expression_of subject) (expressions_of pattern) lacking (telling false tokens.now)) }
-{
-    let Found { tree, rest } = read_expression(alloc, false, tokens)?;
-    let lacking = most(lacking, rest.lacking);
+    let Found { tree, rest } = expression(alloc, false, at)?;
     match tree {
-        None => Ok(Err(refused(rest.blank, lacking, rest.tokens))),
+        None => Ok(Err(refused(rest.blank, rest))),
         Some(object) => {
             let body = body_with(subject, pattern, Object::Value(object));
-            ending(alloc, body, Rest { lacking, ..rest })
+            ending(alloc, body, rest.blank, rest)
         }
     }
 }
@@ -368,27 +298,19 @@ fn object_in(
     alloc: Global,
     subject: Expression,
     pattern: Option<Expression>,
-    lacking: usize,
-    tokens: &[Token],
-) -> Result<Result<Stated, Refusal>, AllocError>
-    ensures { IfOk result (λ s. stated_of s ≡ object_in (expression_of subject) (expressions_of pattern) lacking tokens.now) }
+    at: Rest,
+) -> Read<Stated>
+    ensures { IfOk result (λ s. stated_of s ≡ object_in (expression_of subject) (expressions_of pattern) at.entry.lacking at.entry.tokens.now) }
 {
-    match tokens.split_first() {
-        None => Ok(Ok(ended(body_with(subject, pattern, Object::Null), lacking))),
-        Some((token, rest)) => match role_of(token) {
-            Role::Goes => {
-                let body = body_with(subject, pattern, Object::Null);
-                going(alloc, body, lacking, rest)
-            }
-            Role::Follows => giving(alloc, subject, pattern, lacking, tokens),
-            Role::Assigns => Ok(Err(refused(false, lacking, tokens))),
-            Role::Touches => Ok(Err(refused(
-                begins(false, &token.kind) || is_colon(&token.kind),
-                lacking,
-                tokens,
-            ))),
-        },
+    let Some((token, _)) = at.tokens.split_first() else {
+        let body = body_with(subject, pattern, Object::Null);
+        return Ok(Ok(said(body, Goto::Next, at.lacking)));
+    };
+    if token.blank_before && !is_colon(&token.kind) {
+        return giving(alloc, subject, pattern, at);
     }
+    let body = body_with(subject, pattern, Object::Null);
+    ending(alloc, body, begins(false, &token.kind), at)
 }
 
 #[tactic(auto, using(sno_expression::proofs::Runs::binary_is))]
@@ -415,104 +337,64 @@ fn set(total: usize, subject: &Expression, pattern: bool, lacking: usize) -> usi
     }
 }
 
-// Behind the pattern.
-fn pattern_then(
+// Behind the subject, and the pattern where there is one.
+fn parted(
     alloc: Global,
     total: usize,
     subject: Expression,
-    pattern: Expression,
-    rest: Rest,
-) -> Result<Result<Stated, Refusal>, AllocError>
-    ensures { IfOk result (λ s. stated_of s ≡ pattern_then total rest.entry.blank (expression_of subject) (expression_of pattern) rest.entry.lacking rest.entry.tokens.now) }
+    pattern: Option<Expression>,
+    blank: bool,
+    at: Rest,
+) -> Read<Stated>
+    ensures { IfOk result (λ s. stated_of s ≡ parted total blank (expression_of subject) (expressions_of pattern) at.entry.lacking at.entry.tokens.now) }
 {
-    match rest.tokens.split_first() {
-        None => {
-            let body = body_with(subject, Some(pattern), Object::Nothing);
-            Ok(Ok(ended(body, rest.lacking)))
-        }
-        Some((token, behind)) => match role_of(token) {
-            Role::Assigns => {
-                let lacking = set(total, &subject, true, rest.lacking);
-                object_in(alloc, subject, Some(pattern), lacking, behind)
-            }
-            Role::Goes => {
-                let body = body_with(subject, Some(pattern), Object::Nothing);
-                going(alloc, body, rest.lacking, behind)
-            }
-            Role::Follows | Role::Touches => Ok(Err(refused(
-                rest.blank || ends_part(&token.kind),
-                rest.lacking,
-                rest.tokens,
-            ))),
-        },
+    let Some((token, rest)) = at.tokens.split_first() else {
+        let body = body_with(subject, pattern, Object::Nothing);
+        return Ok(Ok(said(body, Goto::Next, at.lacking)));
+    };
+    if !is_equals(&token.kind) {
+        let body = body_with(subject, pattern, Object::Nothing);
+        ending(alloc, body, blank, at)
+    } else if token.blank_before && token.blank_after {
+        let lacking = set(total, &subject, pattern.is_some(), at.lacking);
+        object_in(alloc, subject, pattern, onto(Rest { lacking, ..at }, rest))
+    } else {
+        Ok(Err(refused(true, at)))
     }
 }
 
-fn matching(
-    alloc: Global,
-    total: usize,
-    subject: Expression,
-    lacking: usize,
-    tokens: &[Token],
-) -> Result<Result<Stated, Refusal>, AllocError>
-    ensures { IfOk result (λ s. stated_of s ≡ matching total (expression_of subject) lacking (telling false tokens.now)) }
+fn matching(alloc: Global, total: usize, subject: Expression, at: Rest) -> Read<Stated>
+    ensures { IfOk result (λ s. stated_of s ≡ matching total (expression_of subject) (with_lack at.entry.lacking (telling false at.entry.tokens.now))) }
 {
-    let Found { tree, rest } = read_expression(alloc, false, tokens)?;
-    let lacking = most(lacking, rest.lacking);
+    let Found { tree, rest } = expression(alloc, false, at)?;
     match tree {
-        None => Ok(Err(refused(rest.blank, lacking, rest.tokens))),
-        Some(pattern) => {
-            let rest = Rest { lacking, ..rest };
-            pattern_then(alloc, total, subject, pattern, rest)
-        }
+        None => Ok(Err(refused(rest.blank, rest))),
+        Some(pattern) => parted(alloc, total, subject, Some(pattern), rest.blank, rest),
     }
 }
 
 // Behind the subject.
-fn subject_then(
-    alloc: Global,
-    total: usize,
-    subject: Expression,
-    rest: Rest,
-) -> Result<Result<Stated, Refusal>, AllocError>
-    ensures { IfOk result (λ s. stated_of s ≡ subject_then total rest.entry.blank (expression_of subject) rest.entry.lacking rest.entry.tokens.now) }
+fn subject_then(alloc: Global, total: usize, subject: Expression, at: Rest) -> Read<Stated>
+    ensures { IfOk result (λ s. stated_of s ≡ subject_then total at.entry.blank (expression_of subject) at.entry.lacking at.entry.tokens.now) }
 {
-    match rest.tokens.split_first() {
-        None => {
-            let body = body_with(subject, None, Object::Nothing);
-            Ok(Ok(ended(body, rest.lacking)))
-        }
-        Some((token, behind)) => {
-            let blank = rest.blank || begins(false, &token.kind) || ends_part(&token.kind);
-            match role_of(token) {
-                Role::Assigns => {
-                    let lacking = set(total, &subject, false, rest.lacking);
-                    object_in(alloc, subject, None, lacking, behind)
-                }
-                Role::Goes => {
-                    let body = body_with(subject, None, Object::Nothing);
-                    going(alloc, body, rest.lacking, behind)
-                }
-                Role::Follows => {
-                    if begins(token.blank_after, &token.kind) {
-                        matching(alloc, total, subject, rest.lacking, rest.tokens)
-                    } else {
-                        Ok(Err(refused(blank, rest.lacking, rest.tokens)))
-                    }
-                }
-                Role::Touches => Ok(Err(refused(blank, rest.lacking, rest.tokens))),
-            }
-        }
+    let Some((token, _)) = at.tokens.split_first() else {
+        let body = body_with(subject, None, Object::Nothing);
+        return Ok(Ok(said(body, Goto::Next, at.lacking)));
+    };
+    if token.blank_before && begins(token.blank_after, &token.kind) {
+        return matching(alloc, total, subject, at);
     }
+    let blank = at.blank || begins(false, &token.kind);
+    parted(alloc, total, subject, None, blank, at)
 }
 
-fn acting(alloc: Global, tokens: &[Token]) -> Result<Result<Stated, Refusal>, AllocError>
-    ensures { IfOk result (λ s. stated_of s ≡ acting (length tokens.now) (telling true tokens.now)) }
+fn acting(alloc: Global, at: Rest) -> Read<Stated>
+    ensures { IfOk result (λ s. stated_of s ≡ acting (length at.entry.tokens.now) (with_lack at.entry.lacking (telling true at.entry.tokens.now))) }
 {
-    let Found { tree, rest } = read_expression(alloc, true, tokens)?;
+    let Found { tree, rest } = expression(alloc, true, at)?;
     match tree {
-        None => Ok(Err(refused(rest.blank, rest.lacking, rest.tokens))),
-        Some(subject) => subject_then(alloc, tokens.len(), subject, rest),
+        None => Ok(Err(refused(rest.blank, rest))),
+        Some(subject) => subject_then(alloc, at.tokens.len(), subject, rest),
     }
 }
 
@@ -521,25 +403,19 @@ fn acting(alloc: Global, tokens: &[Token]) -> Result<Result<Stated, Refusal>, Al
 /// # Errors
 ///
 /// Where a growth was refused.
-pub fn read_statement(
-    alloc: Global,
-    tokens: &[Token],
-) -> Result<Result<Stated, Refusal>, AllocError>
-    ensures { IfOk result (λ s. stated_of s ≡ statement_in tokens.now) }
+pub fn read_statement(alloc: Global, tokens: &[Token]) -> Read<Stated>
+    ensures { IfOk result (λ s. stated_of s ≡ begun 0 tokens.now) }
 {
-    match tokens.split_first() {
-        None => Ok(Ok(ended(None, 0))),
-        Some((token, rest)) => match role_of(token) {
-            Role::Assigns => Ok(Err(refused(false, 0, tokens))),
-            Role::Goes => going(alloc, None, 0, rest),
-            Role::Follows => acting(alloc, tokens),
-            Role::Touches => {
-                if is_colon(&token.kind) {
-                    Ok(Err(refused(true, 0, tokens)))
-                } else {
-                    acting(alloc, tokens)
-                }
-            }
-        },
+    let at = Rest {
+        tokens,
+        lacking: 0,
+        blank: false,
+    };
+    let Some((token, _)) = tokens.split_first() else {
+        return Ok(Ok(said(None, Goto::Next, 0)));
+    };
+    if is_colon(&token.kind) {
+        return ending(alloc, None, false, at);
     }
+    acting(alloc, at)
 }

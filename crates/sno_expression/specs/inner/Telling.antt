@@ -5,10 +5,10 @@ use Rattle.sno_lexer.specs.declared.token.Mark.TheVariants as mark
 use Rattle.sno_lexer.specs.declared.token.Token.{Token}
 use Rattle.sno_lexer.specs.declared.token.TokenKind.{TokenKind}
 use Rattle.sno_lexer.specs.declared.token.TokenKind.TheVariants as token
-use Rattle.sno_expression.specs.Expressions.{Expression}
+use Rattle.sno_expression.specs.Expressions.{Expression, Identifier}
 use Rattle.sno_expression.specs.Marks.{prefix_of}
-use Rattle.sno_expression.specs.inner.Reading.{Hole, Begin, Stack, InGroup, InCall, InItem, Due, Prefixed, Named, Whole, State, At}
-use Rattle.sno_expression.specs.inner.Reading.{closed, read, result, start, opens_bracket, variable_due}
+use Rattle.sno_expression.specs.inner.Reading.{Hole, Begin, fill, Stack, Due, Prefixed, Named, Whole, State, At}
+use Rattle.sno_expression.specs.inner.Reading.{close, go_on, closed, after_prefix, read, result, start, opens_bracket, variable_due}
 
 -- the place further left: more tokens are left there
 abbrev pub most : ℕ → ℕ → ℕ
@@ -34,51 +34,26 @@ begins a token.Open = true
 begins false (token.Mark m) = is_some (prefix_of m)
 begins a k = false
 
-abbrev pub is_identifier : TokenKind → Bool
-is_identifier (token.Identifier n) = true
-is_identifier k = false
-
-abbrev pub is_call : Stack → Bool
-is_call (InCall f args h st) = true
-is_call _ = false
-
--- is an expression or an argument that begins taken, or an empty argument ended
-abbrev pub starts_in : Stack → TokenKind → Bool
-starts_in st token.Comma = is_call st
-starts_in st token.Close = is_call st
-starts_in st k = begins false k
-
--- does the token end what the innermost parenthesis holds
-abbrev pub ends_in : Stack → TokenKind → Bool
-ends_in (InGroup h st) token.Close = true
-ends_in (InCall f args h st) token.Close = true
-ends_in (InCall f args h st) token.Comma = true
-ends_in (InItem n h st) token.CloseAngle = true
-ends_in st k = false
-
 -- is the token taken after an operand with some blanks round it; w tells it of one that opens a bracket
-abbrev pub goes_on : Stack → Bool → TokenKind → Bool
-goes_on st w (token.Identifier n) = true
-goes_on st w (token.Constant c) = true
-goes_on st w (token.Mark m) = true
-goes_on st w token.Open = true
-goes_on st w token.OpenAngle = w
-goes_on st w (token.Part p) = false
-goes_on st w k = ends_in st k
+abbrev pub goes_on : Stack → Expression → Bool → TokenKind → Bool
+goes_on st t w (token.Mark m) = true
+goes_on st t w token.OpenAngle = w
+goes_on st t w k = is_some (go_on st t true false k)
 
-abbrev pub onward : Bool → Stack → Bool → TokenKind → Bool
-onward alone st w k = if closed alone st then w else goes_on st w k
+abbrev pub onward : Bool → Stack → Expression → Bool → TokenKind → Bool
+onward alone st t w k = if closed alone st then w else goes_on st t w k
 
 abbrev pub due_fits : Stack → Hole → TokenKind → Bool
-due_fits st Begin k = starts_in st k
+due_fits st Begin token.Comma = is_some (close st None token.Comma)
+due_fits st Begin token.Close = is_some (close st None token.Close)
 due_fits st h k = begins false k
 
 -- is the token taken with some blanks round it
 abbrev pub fits_at : Bool → State → TokenKind → Bool
 fits_at alone (At st (Due h)) k = due_fits st h k
-fits_at alone (At st (Prefixed h f)) k = is_identifier k
-fits_at alone (At st (Named h f)) k = onward alone st (opens_bracket false k) k
-fits_at alone (At st (Whole t)) k = onward alone st false k
+fits_at alone (At st (Prefixed h w)) k = is_some (after_prefix st h w false k)
+fits_at alone (At st (Named h n)) k = onward alone st (fill h (Identifier n)) (opens_bracket false k) k
+fits_at alone (At st (Whole t)) k = onward alone st t false k
 
 -- the tree, where one is complete when a token is not taken or there are no more; the tokens that are left; the leftmost
 -- place that lacks a variable; and whether the token would be taken with other blanks

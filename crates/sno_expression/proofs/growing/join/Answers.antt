@@ -1,7 +1,6 @@
 -- A run of none.
 use Rattle.std.proofs.Common.{◌∙◌, ap, List}
-use Rattle.sno_expression.specs.{declared.tree.Pending.{Pending}, Expressions.{Binary}, Abstraction.{expression_of}, inner.Runs.{spread_all}}
-use Rattle.sno_expression.proofs.Runs.{binary_is, made}
+use Rattle.sno_expression.{specs.declared.tree.Pending.{Pending}, specs.Expressions.{Binary}, specs.Abstraction.{expression_of}, specs.inner.Runs.{spread_all}, proofs.Runs.{binary_is, made}}
 use Rattle.sno_expression.proofs.growing.join.Goals as goal
 
 pub returns : goal.returns

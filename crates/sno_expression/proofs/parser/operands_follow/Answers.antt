@@ -1,9 +1,7 @@
 -- Each turn is one or two steps that the reading takes; behind a name that comes first, one more concatenation stands innermost.
-use Rattle.std.proofs.Common.{rules, arith, ◌≡◌, ◌+◌, ◌∙◌, drop, ap, sym, refl, List, ℕ}
-use Rattle.std.specs.Prelude.{true, false}
-use Rattle.sno_expression.specs.declared.tree.BinaryOperator.TheVariants.{Concatenation}
-use Rattle.sno_expression.{specs.Expressions.{Expression, Identifier}, specs.Abstraction.{expression_of}, proofs.First.{goes_from}}
-use Rattle.sno_expression.specs.inner.{Reading.{At, Bottom, Whole}, Runs.{spread_all}, Spines.{is_ordered, is_under_all}, Telling.{told}}
+use Rattle.std.{proofs.Common.{rules, arith, ◌≡◌, ◌+◌, ◌∙◌, drop, ap, sym, refl, List, ℕ}, specs.Prelude.{true, false}}
+use Rattle.sno_expression.{specs.declared.tree.BinaryOperator.TheVariants.{Concatenation}, specs.Expressions.{Expression, Identifier}, specs.Abstraction.{expression_of}, proofs.First.{goes_from}}
+use Rattle.sno_expression.{specs.inner.Reading.{At, Bottom, Whole}, specs.inner.Runs.{spread_all}, specs.inner.Spines.{is_ordered, is_under_all}, specs.inner.Telling.{told}}
 use Rattle.sno_expression.proofs.Spines.{fits_element, grown_pushed, ordered_pushed, under_more}
 use Rattle.sno_expression.proofs.parser.operands_follow.Goals as goal
 

@@ -1,10 +1,7 @@
 -- What is read from here on is what was to be read at first; what stands open is in order, and behind names alone all of it are concatenations.
-use Rattle.std.proofs.Common.{◌≡◌, ◌≤◌, ◌-◌, drop, length}
-use Rattle.std.specs.Prelude.{true, false}
-use Rattle.sno_expression.specs.{Abstraction.{expression_of}, inner.Reading.{At, Bottom, Whole}, inner.Runs.{spread_all}}
-use Rattle.sno_expression.specs.inner.Spines.{is_element, is_ordered, is_under_all}
-use Rattle.sno_expression.specs.declared.tree.BinaryOperator.TheVariants.{Concatenation}
-use Rattle.sno_expression.specs.inner.Telling.{told}
+use Rattle.std.{proofs.Common.{◌≡◌, ◌≤◌, ◌-◌, drop, length}, specs.Prelude.{true, false}}
+use Rattle.sno_expression.{specs.Abstraction.{expression_of}, specs.inner.Reading.{At, Bottom, Whole}, specs.inner.Runs.{spread_all}, specs.inner.Spines.{is_element, is_ordered, is_under_all}}
+use Rattle.sno_expression.{specs.declared.tree.BinaryOperator.TheVariants.{Concatenation}, specs.inner.Telling.{told}}
 use Rattle.sno_expression.proofs.parser.operands_follow.Given as goal
 
 abbrev pub invariant-names : goal.invariant-names

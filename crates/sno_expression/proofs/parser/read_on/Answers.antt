@@ -1,6 +1,5 @@
 use Rattle.std.proofs.Common.{◌≡◌, ◌+◌, ◌∙◌, ap, sym, drop, length, arith}
-use Rattle.sno_expression.specs.{Abstraction.{expressions_of}, inner.Telling.{most, lack_at, told, with_lack}, inner.Told.{state_of}}
-use Rattle.sno_expression.proofs.Loop.{more, on_next, on_end, left_from}
+use Rattle.sno_expression.{specs.Abstraction.{expressions_of}, specs.inner.Telling.{most, lack_at, told, with_lack}, specs.inner.Told.{state_of}, proofs.Loop.{more, on_next, on_end, left_from}}
 use Rattle.sno_expression.proofs.parser.read_on.Goals as goal
 
 pub returns-in-End : goal.returns-in-End

@@ -1,5 +1,5 @@
 use Rattle.std.proofs.Common.{◌≡◌, ◌≤◌, ◌-◌, drop, length}
-use Rattle.sno_expression.specs.inner.{Telling.{told, with_lack}, Told.{state_of}}
+use Rattle.sno_expression.{specs.inner.Telling.{told, with_lack}, specs.inner.Told.{state_of}}
 use Rattle.sno_expression.proofs.parser.read_on.Given as goal
 
 abbrev pub invariant-loop-at : goal.invariant-loop-at

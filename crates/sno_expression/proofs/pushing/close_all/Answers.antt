@@ -1,8 +1,7 @@
 -- The outermost operator, and the run behind it.
-use Rattle.std.proofs.Common.{◌∙◌, ap, sym, List, ℕ}
-use Rattle.std.specs.Prelude.{◌==◌}
-use Rattle.sno_expression.specs.{declared.tree.Pending.{Pending}, Expressions.{Binary}, Abstraction.{expression_of}, inner.Runs.{spread_all}}
-use Rattle.sno_expression.proofs.{Runs.{binary_is, made}, Spines.{removed}}
+use Rattle.std.{proofs.Common.{◌∙◌, ap, sym, List, ℕ}, specs.Prelude.{◌==◌}}
+use Rattle.sno_expression.{specs.declared.tree.Pending.{Pending}, specs.Expressions.{Binary}, specs.Abstraction.{expression_of}, specs.inner.Runs.{spread_all}, proofs.Runs.{binary_is, made}}
+use Rattle.sno_expression.proofs.Spines.{removed}
 use Rattle.sno_expression.proofs.pushing.close_all.Goals as goal
 
 pub returns : goal.returns
