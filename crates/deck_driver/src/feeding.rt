@@ -1,5 +1,5 @@
 //! Feeding a deck: each card's event happens when the card is complete.
-ghost use Rattle.std.specs.Prelude.{◌≡◌, ◌⊎◌, ℕ, List, ◌+◌, ◌-◌, ◌<◌, ◌≤◌, ◌^◌, [], ◌++◌, Bool, true, false, None, length, take, Ok, Err, IfOk, IfErr, OnOk, OnErr, IsTrue};
+ghost use Rattle.std.specs.Prelude.{◌≡◌, ◌⊎◌, ℕ, List, ◌+◌, ◌<◌, ◌≤◌, ◌^◌, [], ◌++◌, Bool, true, false, None, length, take, Err, IfOk, IfErr, OnOk, OnErr, IsTrue};
 ghost use Rattle.std.specs.Str.Lines.{lines};
 ghost use Rattle.mon_catalogue.specs.Sets.{Sets};
 ghost use Rattle.scheduler.specs.Marks.{Marks};
@@ -11,7 +11,7 @@ ghost use Rattle.deck_driver.specs.declared.options.Options.{Options as AnyOptio
 ghost use Rattle.deck_driver.specs.declared.section.DeckState.TheVariants as states;
 ghost use Rattle.deck_driver.specs.RunStates.{opening, nothing_counted};
 ghost use Rattle.deck_driver.specs.Printouts.{ReadsBack};
-ghost use Rattle.deck_driver.specs.Feeds.{outcome, outcome_of, behind, refused_at, Good, Bad, Begins, EndsLine, OnAnswer, lines_loaded, is_reading, may_grow, used_by, IsReadBack, IsOwn, stopped_by, error_at, fault_at};
+ghost use Rattle.deck_driver.specs.Feeds.{outcome, outcome_of, refused_at, Good, Bad, Begins, EndsLine, OnAnswer, lines_loaded, is_reading, may_grow, used_by, IsReadBack, IsOwn, stopped_by, error_at, fault_at};
 ghost use Rattle.deck_driver.specs.Audits.{told_to};
 ghost use Rattle.mon_device.specs.Putting.{Puts};
 ghost use Rattle.deck_driver.specs.Abstraction.{told, audit_told, outcome_from, Took, Begun, last_lines};

@@ -39,6 +39,11 @@ body_of (Some b) = Does (expression_of b.subject) (expressions_of b.pattern) (ob
 abbrev pub statement_of : AStatement → Statement
 statement_of s = Says (body_of s.body) (goto_of s.goto)
 
+-- a statement that was read into, or why it was not
+abbrev pub read_into : {A : Type 0} → AStatement → Result A Fault → Result AStatement Fault
+read_into s (Ok _) = Ok s
+read_into s (Err f) = Err f
+
 -- the statement that the tokens spell, with a variable in each place that needs one, and the only one that they spell; or
 -- their leftmost fault
 abbrev pub Parsed : List Token → Result AStatement Fault → Type 0

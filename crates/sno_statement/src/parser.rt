@@ -1,14 +1,15 @@
 //! A statement read part by part, each part as far as it goes: in one pass its trees, the leftmost place that lacks a
 //! variable, and where the tokens go no further, why.
 
-ghost use Rattle.std.specs.Prelude.{◌≡◌, IfOk, Ok, true, false, length};
+ghost use Rattle.std.specs.Prelude.{◌≡◌, Option, Some, None, IfOk, Ok, true, false, length};
 ghost use Rattle.sno_expression.specs.Abstraction.{expression_of, expressions_of};
+ghost use Rattle.sno_expression.specs.Expressions as tree;
 ghost use Rattle.sno_expression.specs.inner.Telling.{Tells, with_lack, telling};
 ghost use Rattle.sno_statement.specs.Statements as the;
 ghost use Rattle.sno_statement.specs.inner.Parsing.{blamed, closing, computed, element, inside, target_in, at_last, is_other, next, goto_in};
 ghost use Rattle.sno_statement.specs.inner.Parsing.{States, is_colon, is_equals, ending, set, giving, object_in, parted, matching, subject_then, acting, begun};
-ghost use Rattle.sno_statement.specs.Abstraction.{target_of, goto_of, object_of, body_of};
-ghost use Rattle.sno_statement.specs.inner.Told.{aims_of, stated_of};
+ghost use Rattle.sno_statement.specs.Abstraction.{target_of, goto_of, object_of, body_of, statement_of};
+ghost use Rattle.sno_statement.specs.inner.Told.{aims_of, led_of, reached};
 
 use crate::fault::FaultKind;
 use crate::statement::{Body, Goto, Object, Statement, Target};
@@ -36,10 +37,10 @@ pub struct Aim<'a, 't> {
     pub rest: Rest<'a, 't>,
 }
 
-/// A statement that was read, and its leftmost place that lacks a variable, or 0.
+/// Where a statement goes, and the leftmost place so far that lacks a variable, or 0.
 #[derive(Drop)]
-pub struct Stated {
-    pub statement: Statement,
+pub struct Led {
+    pub goto: Goto,
     pub lacking: usize,
 }
 
@@ -82,10 +83,8 @@ fn expression<'a, 't>(
 {
     let Found { tree, rest } = read_expression(alloc, alone, at.tokens)?;
     let lacking = most(at.lacking, rest.lacking);
-    Ok(Found {
-        tree,
-        rest: Rest { lacking, ..rest },
-    })
+    let rest = Rest { lacking, ..rest };
+    Ok(Found { tree, rest })
 }
 
 fn closing<'a, 't>(target: Target, at: Rest<'a, 't>) -> Result<Aim<'a, 't>, Refusal>
@@ -160,21 +159,13 @@ fn target_in<'a, 't>(alloc: Global, at: Rest<'a, 't>) -> Read<Aim<'a, 't>>
     }
 }
 
-fn said(body: Option<Body>, goto: Goto, lacking: usize) -> Stated
-    ensures { stated_of (Ok result) ≡ Ok (States (the.Says (body_of body) (goto_of goto)) lacking) }
-{
-    Stated {
-        statement: Statement { body, goto },
-        lacking,
-    }
-}
-
 // Behind the last target.
-fn at_last(body: Option<Body>, goto: Goto, at: Rest) -> Result<Stated, Refusal>
-    ensures { stated_of result ≡ at_last (body_of body) (goto_of goto) at.entry.lacking at.entry.tokens.now }
+fn at_last(goto: Goto, at: Rest) -> Result<Led, Refusal>
+    ensures { (b : the.Body) → led_of b result ≡ at_last b (goto_of goto) at.entry.lacking at.entry.tokens.now }
 {
+    let lacking = at.lacking;
     match at.tokens.split_first() {
-        None => Ok(said(body, goto, at.lacking)),
+        None => Ok(Led { goto, lacking }),
         Some(_) => Err(refused(false, at)),
     }
 }
@@ -190,21 +181,15 @@ fn is_other(outcome: Outcome, kind: &TokenKind) -> bool
 }
 
 // Behind the target of the first outcome.
-fn next(
-    alloc: Global,
-    body: Option<Body>,
-    outcome: Outcome,
-    first: Target,
-    at: Rest,
-) -> Read<Stated>
-    ensures { IfOk result (λ s. stated_of s ≡ next (body_of body) outcome (target_of first) at.entry.lacking at.entry.tokens.now) }
+fn next(alloc: Global, outcome: Outcome, first: Target, at: Rest) -> Read<Led>
+    ensures { IfOk result (λ l. (b : the.Body) → led_of b l ≡ next b outcome (target_of first) at.entry.lacking at.entry.tokens.now) }
 {
     let Some((token, rest)) = at.tokens.split_first() else {
         let goto = match outcome {
             Outcome::Success => Goto::OnSuccess(first),
             Outcome::Failure => Goto::OnFailure(first),
         };
-        return Ok(Ok(said(body, goto, at.lacking)));
+        return Ok(at_last(goto, at));
     };
     if !is_other(outcome, &token.kind) {
         return Ok(Err(refused(false, at)));
@@ -216,14 +201,14 @@ fn next(
                 Outcome::Success => Goto::OnBoth(first, aim.target),
                 Outcome::Failure => Goto::OnBoth(aim.target, first),
             };
-            Ok(at_last(body, goto, aim.rest))
+            Ok(at_last(goto, aim.rest))
         }
     }
 }
 
 // Behind `:`.
-fn goto_in(alloc: Global, body: Option<Body>, at: Rest) -> Read<Stated>
-    ensures { IfOk result (λ s. stated_of s ≡ goto_in (body_of body) at.entry.lacking at.entry.tokens.now) }
+fn goto_in(alloc: Global, at: Rest) -> Read<Led>
+    ensures { IfOk result (λ l. (b : the.Body) → led_of b l ≡ goto_in b at.entry.lacking at.entry.tokens.now) }
 {
     let Some((token, rest)) = at.tokens.split_first() else {
         return Ok(Err(refused(false, at)));
@@ -231,24 +216,14 @@ fn goto_in(alloc: Global, body: Option<Body>, at: Rest) -> Read<Stated>
     match &token.kind {
         TokenKind::Open => match inside(alloc, onto(at, rest))? {
             Err(refusal) => Ok(Err(refusal)),
-            Ok(aim) => Ok(at_last(body, Goto::Always(aim.target), aim.rest)),
+            Ok(aim) => Ok(at_last(Goto::Always(aim.target), aim.rest)),
         },
         TokenKind::Part(Part::On(outcome)) => match target_in(alloc, onto(at, rest))? {
             Err(refusal) => Ok(Err(refusal)),
-            Ok(aim) => next(alloc, body, *outcome, aim.target, aim.rest),
+            Ok(aim) => next(alloc, *outcome, aim.target, aim.rest),
         },
         _ => Ok(Err(refused(false, at))),
     }
-}
-
-fn body_with(subject: Expression, pattern: Option<Expression>, object: Object) -> Option<Body>
-    ensures { body_of result ≡ the.Does (expression_of subject) (expressions_of pattern) (object_of object) }
-{
-    Some(Body {
-        subject,
-        pattern,
-        object,
-    })
 }
 
 fn is_colon(kind: &TokenKind) -> bool
@@ -263,54 +238,60 @@ fn is_equals(kind: &TokenKind) -> bool
     matches!(kind, TokenKind::Part(Part::Equals))
 }
 
-// Behind a body; whether the token would be taken with other blanks is told.
-fn ending(alloc: Global, body: Option<Body>, blank: bool, at: Rest) -> Read<Stated>
-    ensures { IfOk result (λ s. stated_of s ≡ ending blank (body_of body) at.entry.lacking at.entry.tokens.now) }
+// Behind a body.
+fn ending(alloc: Global, goto: &mut Goto, at: Rest) -> Read<usize>
+    requires { goto_of goto.old ≡ the.NoGoto }
+    ensures { IfOk result (λ l. (b : the.Body) → reached b (goto_of goto.new) l ≡ ending at.entry.blank b at.entry.lacking at.entry.tokens.now) }
 {
     let Some((token, rest)) = at.tokens.split_first() else {
-        return Ok(Ok(said(body, Goto::Next, at.lacking)));
+        return Ok(Ok(at.lacking));
     };
     if !is_colon(&token.kind) {
-        Ok(Err(refused(blank, at)))
+        Ok(Err(refused(at.blank, at)))
     } else if token.blank_before {
-        goto_in(alloc, body, onto(at, rest))
+        match goto_in(alloc, onto(at, rest))? {
+            Err(refusal) => Ok(Err(refusal)),
+            Ok(led) => {
+                *goto = led.goto;
+                Ok(Ok(led.lacking))
+            }
+        }
     } else {
         Ok(Err(refused(true, at)))
     }
 }
 
-fn giving(alloc: Global, subject: Expression, pattern: Option<Expression>, at: Rest) -> Read<Stated>
-    ensures { IfOk result (λ s. stated_of s
-        ≡ giving (expression_of subject) (expressions_of pattern) (with_lack at.entry.lacking (telling false at.entry.tokens.now))) }
+fn giving(alloc: Global, object: &mut Object, goto: &mut Goto, at: Rest) -> Read<usize>
+    requires { goto_of goto.old ≡ the.NoGoto }
+    ensures { IfOk result (λ l. (s : tree.Expression) (p : Option tree.Expression) → reached (the.Does s p (object_of object.new)) (goto_of goto.new) l
+        ≡ giving s p (with_lack at.entry.lacking (telling false at.entry.tokens.now))) }
 {
     let Found { tree, rest } = expression(alloc, false, at)?;
     match tree {
         None => Ok(Err(refused(rest.blank, rest))),
-        Some(object) => {
-            let body = body_with(subject, pattern, Object::Value(object));
-            ending(alloc, body, rest.blank, rest)
+        Some(value) => {
+            *object = Object::Value(value);
+            ending(alloc, goto, rest)
         }
     }
 }
 
 // Behind `=`.
-fn object_in(
-    alloc: Global,
-    subject: Expression,
-    pattern: Option<Expression>,
-    at: Rest,
-) -> Read<Stated>
-    ensures { IfOk result (λ s. stated_of s ≡ object_in (expression_of subject) (expressions_of pattern) at.entry.lacking at.entry.tokens.now) }
+fn object_in(alloc: Global, object: &mut Object, goto: &mut Goto, at: Rest) -> Read<usize>
+    requires { goto_of goto.old ≡ the.NoGoto }
+    ensures { IfOk result (λ l. (s : tree.Expression) (p : Option tree.Expression) → reached (the.Does s p (object_of object.new)) (goto_of goto.new) l
+        ≡ object_in s p at.entry.lacking at.entry.tokens.now) }
 {
     let Some((token, _)) = at.tokens.split_first() else {
-        let body = body_with(subject, pattern, Object::Null);
-        return Ok(Ok(said(body, Goto::Next, at.lacking)));
+        *object = Object::Null;
+        return Ok(Ok(at.lacking));
     };
     if token.blank_before && !is_colon(&token.kind) {
-        return giving(alloc, subject, pattern, at);
+        return giving(alloc, object, goto, at);
     }
-    let body = body_with(subject, pattern, Object::Null);
-    ending(alloc, body, begins(false, &token.kind), at)
+    *object = Object::Null;
+    let blank = begins(false, &token.kind);
+    ending(alloc, goto, Rest { blank, ..at })
 }
 
 #[tactic(auto, using(sno_expression::proofs::Runs::binary_is))]
@@ -338,73 +319,97 @@ fn set(total: usize, subject: &Expression, pattern: bool, lacking: usize) -> usi
 }
 
 // Behind the subject, and the pattern where there is one.
-fn parted(
-    alloc: Global,
-    total: usize,
-    subject: Expression,
-    pattern: Option<Expression>,
-    blank: bool,
-    at: Rest,
-) -> Read<Stated>
-    ensures { IfOk result (λ s. stated_of s ≡ parted total blank (expression_of subject) (expressions_of pattern) at.entry.lacking at.entry.tokens.now) }
+fn parted(alloc: Global, total: usize, body: &mut Body, goto: &mut Goto, at: Rest) -> Read<usize>
+    requires object { object_of body.old.object ≡ the.NoObject }
+    requires goto { goto_of goto.old ≡ the.NoGoto }
+    ensures { IfOk result (λ l. reached (body_of (Some body.new)) (goto_of goto.new) l
+        ≡ parted total at.entry.blank (expression_of body.old.subject) (expressions_of body.old.pattern) at.entry.lacking at.entry.tokens.now) }
 {
     let Some((token, rest)) = at.tokens.split_first() else {
-        let body = body_with(subject, pattern, Object::Nothing);
-        return Ok(Ok(said(body, Goto::Next, at.lacking)));
+        return Ok(Ok(at.lacking));
     };
     if !is_equals(&token.kind) {
-        let body = body_with(subject, pattern, Object::Nothing);
-        ending(alloc, body, blank, at)
+        ending(alloc, goto, at)
     } else if token.blank_before && token.blank_after {
-        let lacking = set(total, &subject, pattern.is_some(), at.lacking);
-        object_in(alloc, subject, pattern, onto(Rest { lacking, ..at }, rest))
+        let lacking = set(total, &body.subject, body.pattern.is_some(), at.lacking);
+        object_in(
+            alloc,
+            &mut body.object,
+            goto,
+            onto(Rest { lacking, ..at }, rest),
+        )
     } else {
         Ok(Err(refused(true, at)))
     }
 }
 
-fn matching(alloc: Global, total: usize, subject: Expression, at: Rest) -> Read<Stated>
-    ensures { IfOk result (λ s. stated_of s ≡ matching total (expression_of subject) (with_lack at.entry.lacking (telling false at.entry.tokens.now))) }
+fn matching(alloc: Global, total: usize, body: &mut Body, goto: &mut Goto, at: Rest) -> Read<usize>
+    requires object { object_of body.old.object ≡ the.NoObject }
+    requires goto { goto_of goto.old ≡ the.NoGoto }
+    ensures { IfOk result (λ l. reached (body_of (Some body.new)) (goto_of goto.new) l
+        ≡ matching total (expression_of body.old.subject) (with_lack at.entry.lacking (telling false at.entry.tokens.now))) }
 {
     let Found { tree, rest } = expression(alloc, false, at)?;
     match tree {
         None => Ok(Err(refused(rest.blank, rest))),
-        Some(pattern) => parted(alloc, total, subject, Some(pattern), rest.blank, rest),
+        Some(pattern) => {
+            body.pattern = Some(pattern);
+            parted(alloc, total, body, goto, rest)
+        }
     }
 }
 
 // Behind the subject.
-fn subject_then(alloc: Global, total: usize, subject: Expression, at: Rest) -> Read<Stated>
-    ensures { IfOk result (λ s. stated_of s ≡ subject_then total at.entry.blank (expression_of subject) at.entry.lacking at.entry.tokens.now) }
+fn subject_then(
+    alloc: Global,
+    total: usize,
+    body: &mut Body,
+    goto: &mut Goto,
+    at: Rest,
+) -> Read<usize>
+    requires pattern { expressions_of body.old.pattern ≡ None }
+    requires object { object_of body.old.object ≡ the.NoObject }
+    requires goto { goto_of goto.old ≡ the.NoGoto }
+    ensures { IfOk result (λ l. reached (body_of (Some body.new)) (goto_of goto.new) l
+        ≡ subject_then total at.entry.blank (expression_of body.old.subject) at.entry.lacking at.entry.tokens.now) }
 {
     let Some((token, _)) = at.tokens.split_first() else {
-        let body = body_with(subject, None, Object::Nothing);
-        return Ok(Ok(said(body, Goto::Next, at.lacking)));
+        return Ok(Ok(at.lacking));
     };
     if token.blank_before && begins(token.blank_after, &token.kind) {
-        return matching(alloc, total, subject, at);
+        return matching(alloc, total, body, goto, at);
     }
     let blank = at.blank || begins(false, &token.kind);
-    parted(alloc, total, subject, None, blank, at)
+    parted(alloc, total, body, goto, Rest { blank, ..at })
 }
 
-fn acting(alloc: Global, at: Rest) -> Read<Stated>
-    ensures { IfOk result (λ s. stated_of s ≡ acting (length at.entry.tokens.now) (with_lack at.entry.lacking (telling true at.entry.tokens.now))) }
+fn acting(alloc: Global, statement: &mut Statement, at: Rest) -> Read<usize>
+    requires { goto_of statement.old.goto ≡ the.NoGoto }
+    ensures { IfOk result (λ l. reached (body_of statement.new.body) (goto_of statement.new.goto) l
+        ≡ acting (length at.entry.tokens.now) (with_lack at.entry.lacking (telling true at.entry.tokens.now))) }
 {
     let Found { tree, rest } = expression(alloc, true, at)?;
     match tree {
         None => Ok(Err(refused(rest.blank, rest))),
-        Some(subject) => subject_then(alloc, at.tokens.len(), subject, rest),
+        Some(subject) => {
+            let mut body = Body {
+                subject,
+                pattern: None,
+                object: Object::Nothing,
+            };
+            let total = at.tokens.len();
+            let lacking = subject_then(alloc, total, &mut body, &mut statement.goto, rest);
+            statement.body = Some(body);
+            lacking
+        }
     }
 }
 
-/// The statement that the tokens are read as, or why they are read as none.
-///
-/// # Errors
-///
-/// Where a growth was refused.
-pub fn read_statement(alloc: Global, tokens: &[Token]) -> Read<Stated>
-    ensures { IfOk result (λ s. stated_of s ≡ begun 0 tokens.now) }
+/// Fills a statement that does nothing and goes on with what the tokens are read as, and tells its leftmost place that lacks a
+/// variable, or 0; or why they are read as none. An error is a growth that was refused.
+pub fn read_statement(alloc: Global, tokens: &[Token], statement: &mut Statement) -> Read<usize>
+    requires { statement_of statement.old ≡ the.Says the.NoBody the.NoGoto }
+    ensures { IfOk result (λ l. reached (body_of statement.new.body) (goto_of statement.new.goto) l ≡ begun 0 tokens.now) }
 {
     let at = Rest {
         tokens,
@@ -412,10 +417,10 @@ pub fn read_statement(alloc: Global, tokens: &[Token]) -> Read<Stated>
         blank: false,
     };
     let Some((token, _)) = tokens.split_first() else {
-        return Ok(Ok(said(None, Goto::Next, 0)));
+        return Ok(Ok(0));
     };
     if is_colon(&token.kind) {
-        return ending(alloc, None, false, at);
+        return ending(alloc, &mut statement.goto, at);
     }
-    acting(alloc, at)
+    acting(alloc, statement, at)
 }

@@ -1,7 +1,8 @@
 //! The parser of statements.
 
 ghost use Rattle.std.specs.Prelude.{◌≡◌, IfOk};
-ghost use Rattle.sno_statement.specs.Abstraction.{Parsed};
+ghost use Rattle.sno_statement.specs.Abstraction.{Parsed, read_into, statement_of};
+ghost use Rattle.sno_statement.specs.Statements.{Says, NoBody, NoGoto};
 ghost use Rattle.sno_statement.specs.inner.Parsing.{blame};
 
 use crate::fault::{Fault, FaultKind};
@@ -27,10 +28,11 @@ fn blame(total: usize, refusal: Refusal) -> Fault
     }
 }
 
-/// The statement that the tokens behind a label spell, or their leftmost fault, in one pass.
+/// Reads into a statement, which does nothing and goes on, the one that the tokens behind a label spell, or tells their leftmost
+/// fault, in one pass.
 ///
 /// The statement is the only one that they spell: its trees obey precedence and associativity, and where a variable is
-/// needed there is one. A fault is answered exactly where there is no such statement.
+/// needed there is one. A fault is answered exactly where there is no such statement; then what was read is of no use.
 ///
 /// # Errors
 ///
@@ -38,17 +40,19 @@ fn blame(total: usize, refusal: Refusal) -> Fault
 pub fn parse_statement(
     alloc: Global,
     tokens: &[Token],
-) -> Result<Result<Statement, Fault>, AllocError>
-    ensures { IfOk result (λ r. Parsed tokens.now r) }
+    statement: &mut Statement,
+) -> Result<Result<(), Fault>, AllocError>
+    requires { statement_of statement.old ≡ Says NoBody NoGoto }
+    ensures { IfOk result (λ r. Parsed tokens.now (read_into statement.new r)) }
 {
-    match read_statement(alloc, tokens)? {
+    match read_statement(alloc, tokens, statement)? {
         Err(refusal) => Ok(Err(blame(tokens.len(), refusal))),
-        Ok(stated) => {
-            if stated.lacking == 0 {
-                Ok(Ok(stated.statement))
+        Ok(lacking) => {
+            if lacking == 0 {
+                Ok(Ok(()))
             } else {
                 Ok(Err(Fault {
-                    at: tokens.len().saturating_sub(stated.lacking),
+                    at: tokens.len().saturating_sub(lacking),
                     kind: FaultKind::NoVariable,
                 }))
             }

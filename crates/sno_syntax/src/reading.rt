@@ -12,7 +12,7 @@ use crate::start::{bad_end, start_of};
 use crate::statement::{note_label, read_statement};
 use mon_text::Stop;
 use sno_cards::{ProgramCards, StatementText, SyntaxError};
-use sno_statement::Statement;
+use sno_statement::{Goto, Statement};
 use sno_text::Seed;
 use std::alloc::{AllocError, Global};
 
@@ -41,7 +41,11 @@ fn read_next(
     ensures labels { OnOk result (body.new.labels ≡ with_label body.old.labels (label_of text.now) index) }
     ensures refused { IfErr result (IfRefused (λ refusal. statement_refusal body.old.labels text.now ≡ Some refusal)) }
 {
-    let statement = read_statement(alloc, &body.labels, text)?;
+    let mut statement = Statement {
+        body: None,
+        goto: Goto::Next,
+    };
+    read_statement(alloc, &body.labels, text, &mut statement)?;
     note_label(alloc, &mut body.labels, text, index)?;
     push(&mut body.statements, statement)?;
     Ok(())

@@ -1,7 +1,7 @@
 //! A statement's text, to the statement or its refusal.
 ghost use Rattle.std.specs.Prelude.{◌≡◌, Some, Ok, Err, IfOk, IfErr, OnOk};
 ghost use Rattle.sno_cards.specs.Answers.{IfRefused};
-ghost use Rattle.sno_statement.specs.Abstraction.{statement_of};
+ghost use Rattle.sno_statement.specs.{Abstraction.{statement_of}, Statements.{Says, NoBody, NoGoto}};
 ghost use Rattle.sno_syntax.specs.Refusals.{token_place, fault_refusal, label_of, tokens_of, stage_refusal, statement_refusal, with_label};
 ghost use Rattle.sno_syntax.specs.inner.Parts.{code_of_fault};
 ghost use Rattle.sno_syntax.specs.Programs.{TextSpells, SpellsBehind};
@@ -11,7 +11,7 @@ use crate::lexing::tokens_of;
 use crate::place::{end_of, place_at};
 use mon_text::Stop;
 use sno_cards::{Place, StatementText, SyntaxCode, SyntaxError};
-use sno_statement::{Fault, FaultKind, Statement, parse_statement};
+use sno_statement::{Fault, FaultKind, Goto, Statement, parse_statement};
 use std::alloc::{AllocError, Global};
 
 fn code_of_fault(kind: FaultKind) -> SyntaxCode
@@ -45,18 +45,24 @@ fn fault_refusal(text: &StatementText, offsets: &[usize], fault: Fault) -> Synta
 }
 
 // What a statement says behind its label.
-fn read_body(alloc: Global, text: &StatementText) -> Result<Statement, Stop<SyntaxError>>
-    ensures spelled { IfOk result (λ s. TextSpells text.now (statement_of s)) }
+fn read_body(
+    alloc: Global,
+    text: &StatementText,
+    statement: &mut Statement,
+) -> Result<(), Stop<SyntaxError>>
+    requires { statement_of statement.old ≡ Says NoBody NoGoto }
+    ensures spelled { OnOk result (TextSpells text.now (statement_of statement.new)) }
     ensures refused { IfErr result (IfRefused (λ refusal. stage_refusal text.now (tokens_of text.now) ≡ Some refusal)) }
 {
     let tokens = tokens_of(alloc, text)?;
-    match parse_statement(alloc, tokens.tokens())? {
-        Ok(statement) => Ok(statement),
+    match parse_statement(alloc, tokens.tokens(), statement)? {
+        Ok(()) => Ok(()),
         Err(fault) => Err(Stop::Refused(fault_refusal(text, tokens.offsets(), fault))),
     }
 }
 
-/// A statement, where these labels are defined before it; or why it is refused.
+/// Reads a statement into one that does nothing and goes on, where these labels are defined before it; or tells why it is
+/// refused.
 ///
 /// # Errors
 ///
@@ -65,15 +71,17 @@ pub(crate) fn read_statement(
     alloc: Global,
     labels: &Labels,
     text: &StatementText,
-) -> Result<Statement, Stop<SyntaxError>>
-    ensures spelled { IfOk result (λ s. SpellsBehind labels.now text.now (statement_of s)) }
+    statement: &mut Statement,
+) -> Result<(), Stop<SyntaxError>>
+    requires { statement_of statement.old ≡ Says NoBody NoGoto }
+    ensures spelled { OnOk result (SpellsBehind labels.now text.now (statement_of statement.new)) }
     ensures refused { IfErr result (IfRefused (λ refusal. statement_refusal labels.now text.now ≡ Some refusal)) }
 {
     if let Some(code) = label_fault(labels, label_in(text.as_bytes())) {
         let place = place_at(text, 0);
         return Err(Stop::Refused(SyntaxError { code, place }));
     }
-    read_body(alloc, text)
+    read_body(alloc, text, statement)
 }
 
 /// Why a statement is refused, if it is, where these labels are defined before it: its label, else its first fault, as
@@ -89,8 +97,12 @@ pub fn statement_refusal(
 ) -> Result<Option<SyntaxError>, AllocError>
     ensures { IfOk result (λ refusal. refusal ≡ statement_refusal labels.now text.now) }
 {
-    match read_statement(alloc, labels, text) {
-        Ok(_statement) => Ok(None),
+    let mut statement = Statement {
+        body: None,
+        goto: Goto::Next,
+    };
+    match read_statement(alloc, labels, text, &mut statement) {
+        Ok(()) => Ok(None),
         Err(Stop::Refused(refusal)) => Ok(Some(refusal)),
         Err(Stop::Memory) => Err(AllocError),
     }

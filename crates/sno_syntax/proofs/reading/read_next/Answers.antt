@@ -1,4 +1,4 @@
 use Rattle.sno_syntax.proofs.reading.read_next.Goals as goal
 
 pub returns-clause-spelled : goal.returns-clause-spelled
-returns-clause-spelled c = (c.in_ok-statement.statement, c.in_ok-push.ensures, c.in_ok-statement.ensures.spelled)
+returns-clause-spelled c = (c.read_statement.new.statement, c.in_ok-push.ensures, c.in_ok-read_statement.ensures.spelled)

@@ -7,13 +7,13 @@ use Rattle.sno_syntax.proofs.statement.read_body.Goals as goal
 
 pub returns-in-Ok-clause-spelled : goal.returns-in-Ok-clause-spelled
 returns-in-Ok-clause-spelled c =
-    let s = statement_of c.in-Ok.statement in
-    let parsed = rw (c.tokens-2.ensures.value, c.in-Ok.is) at c.in_ok-statement.ensures in
+    let s = statement_of c.parse_statement.new.statement in
+    let parsed = rw (c.tokens-2.ensures.value, c.in-Ok.is) at c.in_ok-parse_statement.ensures in
     text_spells c.args.text.now s
     (subst (λ (r : Result TokenList SyntaxError). AreTokensOf s r) (sym c.in_ok-tokens.ensures.tokens) (parsed.0, parsed.1))
 
 pub returns-clause-refused : goal.returns-clause-refused
 returns-clause-refused c =
     let list = c.in_ok-tokens.tokens in
-    let found = is_found list.tokens c.in-Err.fault (rw (c.tokens-2.ensures.value, c.in-Err.is) at c.in_ok-statement.ensures) in
+    let found = is_found list.tokens c.in-Err.fault (rw (c.tokens-2.ensures.value, c.in-Err.is) at c.in_ok-parse_statement.ensures) in
     search rules
