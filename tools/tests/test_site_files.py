@@ -67,7 +67,9 @@ class NoTexts(SiteTrying):
         self.assertEqual(self.answers('anna'), {1: 'REFUSED it\nTOO LONG\n', 2: 'REFUSED more\nTOO LONG\n', 3: ''})
 
     def test_a_file_that_is_written_on_meanwhile_is_read_once(self) -> None:
-        line, ended = LIST % b'anna', threading.Event()
+        # Sixteen bytes, as a file's pages are so many lines: who reads meanwhile may find a write that runs over a page half done.
+        line, ended = LIST % b'anna ', threading.Event()
+        self.assertEqual(4096 % len(line), 0)
 
         def write_on(path: bytes) -> None:
             with open(path, 'ab', buffering=0) as file:
