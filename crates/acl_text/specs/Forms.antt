@@ -9,8 +9,7 @@ use Rattle.acl_text.specs.Reading.{read_short, read_long, MayGrow}
 
 -- the list that a text spells, or its first refusal
 abbrev pub list_of_text : AclText → Result (List Entry) AclError
-list_of_text (Short text) = read_short text
-list_of_text (Long text) = read_long text
+list_of_text list = elim list [ Short text ↦ read_short text | Long text ↦ read_long text ]
 
 -- reading a text may take memory: it has five entries or more, and none of the first five is refused
 abbrev pub MayTakeMemory : AclText → Type 0

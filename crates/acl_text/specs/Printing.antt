@@ -42,8 +42,7 @@ effective (Some mask) e = if is_masked e && not (holds mask e.perms) then Some (
 
 -- the comment that tells them, as `#effective:r--`, behind a tab
 abbrev pub effective_text : Option Perms → List ℕ
-effective_text None = []
-effective_text (Some perms) = 9 ∷ codes "#effective:" ++ perms_text perms
+effective_text it = elim it [ None ↦ [] | Some perms ↦ 9 ∷ codes "#effective:" ++ perms_text perms ]
 
 -- the line of an entry, under this mask
 abbrev pub long_line : Option Perms → Entry → List ℕ

@@ -1,5 +1,6 @@
 -- The refusals of a text (the order in which they are tried is own).
 use Rattle.std.specs.Prelude.{ℕ, ◌+◌, ◌==◌, Bool, not, ◌&&◌, ◌||◌, nat_le, nat_eq, if◌then◌else◌, List, [], ◌∷◌, count_by, codes, Option, Some, None, option_map, ok_or, Result, Ok, Err}
+use Rattle.std.specs.Map.{lookup}
 use Rattle.std.specs.List.{list_all, list_any}
 use Rattle.std.specs.Cmp.Lexicographic.{pointwise}
 use Rattle.mon_text.specs.Names.{is_name}
@@ -25,17 +26,12 @@ is_either word long short = pointwise nat_eq word long || pointwise nat_eq word 
 -- the type of an entry that begins with this word and has no qualifier
 abbrev pub type_of : List ℕ → Option Tag
 type_of word =
-    if is_either word (codes "user") (codes "u") then Some UserObj
-    else if is_either word (codes "group") (codes "g") then Some GroupObj
-    else if is_either word (codes "mask") (codes "m") then Some Mask
-    else if is_either word (codes "other") (codes "o") then Some Other
-    else None
+    lookup (λ (names : List ℕ × List ℕ). is_either word names.0 names.1) (((codes "user", codes "u"), UserObj) ∷ ((codes "group", codes "g"), GroupObj)
+    ∷ ((codes "mask", codes "m"), Mask) ∷ ((codes "other", codes "o"), Other) ∷ [])
 
 -- the type of an entry of the same word that has a qualifier
 abbrev pub named_type : Tag → Option Tag
-named_type UserObj = Some User
-named_type GroupObj = Some Group
-named_type _ = None
+named_type tag = elim tag [ UserObj ↦ Some User | GroupObj ↦ Some Group | _ ↦ None ]
 
 -- the type of an entry and its name, by the qualifier
 abbrev pub qualified : Tag → List ℕ → Option (Tag × Option (List ℕ))

@@ -1,17 +1,11 @@
 -- How a service answers whose exchanges are put to an audit (own): as the units answer, and each exchange has its line.
-use Rattle.std.specs.Prelude.{◌≡◌, ℕ, List}
+use Rattle.std.specs.Prelude.{◌≡◌, ℕ}
 use Rattle.interaction.specs.declared.request.Request.{Request}
 use Rattle.interaction.specs.declared.answer.Answer.{Answer}
-use Rattle.mon_access.specs.declared.account.Account.{Account}
 use Rattle.mon_device.specs.Putting.{Standing, Puts}
 use Rattle.mon_unit.specs.declared.service.UnitService.{UnitService}
-use Rattle.mon_unit.specs.Serving.{Reach}
 use Rattle.mon_unit.specs.Lent.{UnitAnswers, reach_of}
-use Rattle.audit.specs.Requests.{request_line, asked_of}
-
--- the line of an exchange of the job of this number, for this account, over what its requests reach then
-abbrev pub exchange_line : ℕ → Account → Reach → Request → Answer → List ℕ
-exchange_line n account reach q answer = request_line (asked_of n account reach q) answer
+pub use Rattle.audit.specs.Requests.{exchange_line}
 
 -- the units answered a request, and its line was put to a sink that stood so before and stands so then
 pub record Audited (n : ℕ) (s : UnitService) (a : Standing) (q : Request) (answer : Answer) (m : ℕ) (t : UnitService) (b : Standing) : Type 0 where

@@ -1,35 +1,23 @@
--- What the audit says of a command (own): who gives it, which, of which data set, what was answered, and by what it was granted; a new list
--- stands in the line whole. Behind the line of a CATALOG stand those of the data sets that it shows.
+-- The line of a command as it is told by what was said to it, without what it was shown: for the code, and for laws.
 use Rattle.std.specs.Prelude.{ℕ, List, [], ◌++◌, codes, Option, Ok, Err}
-use Rattle.std.specs.Option.{option_and_then}
 use Rattle.acl_text.specs.Forms.{list_of_text}
 use Rattle.acl_text.specs.Printing.{short_form}
 use Rattle.mon_catalogue.specs.Modes.{mode_word}
 use Rattle.mon_access.specs.declared.account.Account.{Account}
 use Rattle.mon_catalogue.specs.Sets.{Sets}
 use Rattle.deck_lines.specs.declared.command.Command.{Command}
-use Rattle.deck_lines.specs.declared.command.Command.TheVariants.{Create, Delete, SetAcl, ShowAcl, List as Listing, Catalog}
+use Rattle.deck_lines.specs.declared.command.Command.TheVariants.{Create, SetAcl}
 use Rattle.mon_command.specs.declared.reply.Reply.TheVariants.{Done}
 use Rattle.mon_command.specs.declared.said.Said.{Said}
 use Rattle.mon_command.specs.declared.said.Said.TheVariants.{Told, Records, Entries, Names}
-use Rattle.mon_command.specs.Commanded.{Answer}
-use Rattle.mon_command.specs.Saying.{said_of}
 use Rattle.deck_lines.specs.Commands.{account_of}
 use Rattle.mon_command.specs.Printouts.{word, number}
 use Rattle.mon_command.specs.Replies.{reply_text}
 use Rattle.audit.specs.declared.grants.Grant.{Grant}
 use Rattle.audit.specs.Words.{command_line}
-use Rattle.audit.specs.Grants.{command_grant, last_words}
+pub use Rattle.audit.specs.Ordered.{card_words}
+use Rattle.audit.specs.Grants.{known_grant, last_words}
 use Rattle.audit.specs.Catalogs.{shown_lines}
-
--- the card's word, and the data set's name
-abbrev pub card_words : Command → List ℕ
-card_words (Create account name mode) = codes " CREATE" ++ word name
-card_words (Delete account name) = codes " DELETE" ++ word name
-card_words (SetAcl account name text) = codes " SETACL" ++ word name
-card_words (ShowAcl account name) = codes " SHOWACL" ++ word name
-card_words (Listing account name) = codes " LIST" ++ word name
-card_words (Catalog account) = codes " CATALOG"
 
 -- the reply; or how many records were shown, how many entries of a list, how many names
 abbrev pub said_words : Said → List ℕ
@@ -58,7 +46,6 @@ abbrev pub spelled : Command → List ℕ
 spelled (SetAcl account name text) = elim (list_of_text text) [ Ok list ↦ word (short_form list) | Err refusal ↦ [] ]
 spelled _ = []
 
--- all that is said of a command of this account, if it is known, that was answered so over these data sets
-abbrev pub ordered_lines : Option Account → Sets → Command → Answer → List ℕ
-ordered_lines known sets command answer =
-    said_line command (said_of answer) (spelled command) (option_and_then (λ a. command_grant a sets command) known) ++ shown_lines known sets command
+-- the lines of a command to which this was said
+abbrev pub said_lines : Option Account → Sets → Command → Said → List ℕ
+said_lines known sets command said = said_line command said (spelled command) (known_grant known sets command) ++ shown_lines known sets command

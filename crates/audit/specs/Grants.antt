@@ -48,9 +48,7 @@ command_grant account sets command = None
 -- THE WORDS
 
 abbrev pub granted_words : Option Grant → List ℕ
-granted_words None = []
-granted_words (Some AsOwner) = codes " BY owner"
-granted_words (Some (ByEntry reason)) = word (reason_text reason)
+granted_words grant = elim grant [ None ↦ [] | Some AsOwner ↦ codes " BY owner" | Some (ByEntry reason) ↦ word (reason_text reason) ]
 
 -- what stands last of a command that is done, or shows something
 abbrev pub last_words : Said → Option Grant → List ℕ

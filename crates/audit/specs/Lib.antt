@@ -2,6 +2,7 @@ pub mod Words
 pub mod Grants
 pub mod Requests
 pub mod Catalogs
+pub mod Ordered
 pub mod Commands
 pub mod RunEnds
 pub mod AuditedAnswers

@@ -17,15 +17,8 @@ command_line account what = codes "COMMAND 0" ++ word account ++ what ++ codes "
 
 -- what a unit is tied to: a data set by its name, which begins with a letter; or what no name can be
 abbrev pub target_word : Target → List ℕ
-target_word Untied = codes ".NONE"
-target_word Data = codes ".DATA"
-target_word Spool = codes ".SPOOL"
-target_word (Set name) = name
+target_word target = elim target [ Untied ↦ codes ".NONE" | Data ↦ codes ".DATA" | Spool ↦ codes ".SPOOL" | Set name ↦ name ]
 
 -- what a request comes to
 abbrev pub outcome_word : Answer → List ℕ
-outcome_word Done = codes "DONE"
-outcome_word (Got line) = codes "GOT"
-outcome_word EndOfFile = codes "EOF"
-outcome_word (Denied reason) = codes "DENIED"
-outcome_word Full = codes "FULL"
+outcome_word told = elim told [ Done ↦ codes "DONE" | Got line ↦ codes "GOT" | EndOfFile ↦ codes "EOF" | Denied reason ↦ codes "DENIED" | Full ↦ codes "FULL" ]

@@ -12,6 +12,7 @@ use Rattle.mon_command.specs.{Printouts.{word}, Saying.{said_of}}
 use Rattle.mon_command.specs.Commanded as commands
 use Rattle.job_end.specs.AuditLines.{loaded_line, refused_line, ended_line}
 use Rattle.audit.specs.{declared.grants.Grant.{Grant}, declared.grants.Grant.TheVariants.{AsOwner}, Grants.{by_entry, by_owner, known_grant}}
+use Rattle.audit.proofs.Ordered.{as_said}
 use Rattle.audit.specs.{Requests.{asked_of, request_line}, Catalogs.{shown_line, shown_lines}, Commands.{said_line, spelled}}
 use Rattle.mon_monitor.specs.{History.{Entry, Entered, Refused, Asked, Ended, Ordered}, Audit.{audit_line, audit}}
 use Rattle.deck_run.specs.{Audited.{Audited}, Headline.{history_of}}
@@ -102,10 +103,11 @@ module _ (lists : ListsAreSpelled) (back : ReadsBack) where
       let list = list_of command in
       let sound : IsSoundCommand command said list grant =
       record { names = h.0; answer = h.1.1; spelled = list_is lists command; entry = known_grant_named known sets command h.1.0; fits = grant_fits known sets command } in
-      then_lines (said_line command said (spelled command) grant) (shown_lines known sets command) (told_command command said list grant ∷ []) (told_shown known sets command)
+      subst (λ (text : List ℕ). Tells text (told_command command said list grant ∷ told_shown known sets command)) (sym (as_said known sets command answer))
+      (then_lines (said_line command said (spelled command) grant) (shown_lines known sets command) (told_command command said list grant ∷ []) (told_shown known sets command)
       (subst (λ (text : List ℕ). Tells (said_line command said text grant) (told_command command said list grant ∷ [])) (sym (spelled_is command))
       (one_line (said_line command said (spelled_text list) grant) _ (told_command command said list grant) (said_line_reads command said list grant sound) (ordered_back back command said list grant sound)))
-      (shown_tell known sets command h.0 h.1.0)
+      (shown_tell known sets command h.0 h.1.0))
 
   entry_tells : (entry : Entry) → IsSound entry → Tells (audit_line entry) (told_of entry)
   entry_tells (Entered deck) h =

@@ -9,3 +9,4 @@ pub mod LineEnds
 pub mod Ending
 pub mod Verdicts
 pub mod Counted
+pub mod Back

@@ -1,32 +1,22 @@
 -- The cards of a deck (own): a line's first word says which one it is.
-use Rattle.std.specs.Prelude.{ℕ, Bool, List, [], Option, Some, None, codes, if◌then◌else◌, slice_get, unwrap_or, bytes_eq}
+use Rattle.std.specs.Prelude.{ℕ, Bool, List, [], Option, Some, codes, slice_get, unwrap_or, bytes_eq, ◌∷◌}
+use Rattle.std.specs.Map.{lookup}
 use denote.Enum.Bare.{sameb}
 use Rattle.deck_lines.specs.contracts.card.Card.{the_type}
 use Rattle.deck_lines.specs.declared.card.Card.{Card}
 use Rattle.deck_lines.specs.declared.card.Card.TheVariants.{Accounts, Catalogue, Set, Stream, Create, Delete, SetAcl, EndAcl, ShowAcl, List as Listing, Catalog, Job, Tie, EndJob, Turn, Drain, Stop}
 use Rattle.std.specs.Option.{option_eq}
 
--- the card that a word names: one of the sections, of the stream, or of jobs and of turns
+-- the cards, by their words: those of the sections, of the stream, and of jobs and of turns
+abbrev pub cards : List (List ℕ × Card)
+cards =
+    (codes "$ACCOUNTS", Accounts) ∷ (codes "$CATALOGUE", Catalogue) ∷ (codes "$SET", Set) ∷ (codes "$STREAM", Stream) ∷ (codes "$CREATE", Create)
+    ∷ (codes "$DELETE", Delete) ∷ (codes "$SETACL", SetAcl) ∷ (codes "$ENDACL", EndAcl) ∷ (codes "$SHOWACL", ShowAcl) ∷ (codes "$LIST", Listing)
+    ∷ (codes "$CATALOG", Catalog) ∷ (codes "$STOP", Stop) ∷ (codes "$JOB", Job) ∷ (codes "$UNIT", Tie) ∷ (codes "$EOJ", EndJob) ∷ (codes "$TURN", Turn)
+    ∷ (codes "$DRAIN", Drain) ∷ []
+
 abbrev pub card_of : List ℕ → Option Card
-card_of word =
-    if bytes_eq word (codes "$ACCOUNTS") then Some Accounts
-    else if bytes_eq word (codes "$CATALOGUE") then Some Catalogue
-    else if bytes_eq word (codes "$SET") then Some Set
-    else if bytes_eq word (codes "$STREAM") then Some Stream
-    else if bytes_eq word (codes "$CREATE") then Some Create
-    else if bytes_eq word (codes "$DELETE") then Some Delete
-    else if bytes_eq word (codes "$SETACL") then Some SetAcl
-    else if bytes_eq word (codes "$ENDACL") then Some EndAcl
-    else if bytes_eq word (codes "$SHOWACL") then Some ShowAcl
-    else if bytes_eq word (codes "$LIST") then Some Listing
-    else if bytes_eq word (codes "$CATALOG") then Some Catalog
-    else if bytes_eq word (codes "$STOP") then Some Stop
-    else if bytes_eq word (codes "$JOB") then Some Job
-    else if bytes_eq word (codes "$UNIT") then Some Tie
-    else if bytes_eq word (codes "$EOJ") then Some EndJob
-    else if bytes_eq word (codes "$TURN") then Some Turn
-    else if bytes_eq word (codes "$DRAIN") then Some Drain
-    else None
+card_of word = lookup (bytes_eq word) cards
 
 -- the card that was found is this one (derived `==`)
 abbrev pub is_card : Card → Option Card → Bool

@@ -10,8 +10,7 @@ use Rattle.mon_text.specs.Beginnings.{first_passes}
 
 -- refused where the test fails
 abbrev pub unless : Bool → DeckError → Option DeckError
-unless true code = None
-unless false code = Some code
+unless holds code = elim holds [ true ↦ None | false ↦ Some code ]
 
 -- what is tried on each line before anything else: its length, and then its characters
 abbrev pub line_refusal : ℕ → List ℕ → Option DeckError

@@ -9,7 +9,7 @@ use Rattle.mon_monitor.specs.{SystemStates.{SystemState, first_system}, Printout
 use Rattle.deck_lines.specs.declared.deck_error.DeckError.{DeckError}
 use Rattle.deck_syntax.specs.{Decks.{Deck, Asked, Ending, Stopped, Refused}, Laws.{deck_lines, deck_over}, Sections.{deck_of}, Spelling.{IsDeck}}
 use Rattle.deck_syntax.proofs.{Closing.{good_beginnings}, ComingBack.{comes_back}}
-use Rattle.deck_driver.{specs.RunStates.{opening, events_of, played_run_state}, proofs.Verdicts.{at_end}, specs.Abstraction.{told, audit_told, Took}}
+use Rattle.deck_driver.{specs.RunStates.{opening, events_of, played_run_state}, proofs.Verdicts.{at_end}, proofs.Back.{read_back}, specs.Abstraction.{told, audit_told, Took}}
 use Rattle.deck_driver.specs.{declared.feed.DeckFeed.{DeckFeed}, Printouts.{closing, output_of_run_state}}
 use Rattle.mon_device.{specs.Putting.{Standing}, proofs.Putting.{puts_then}}
 use Rattle.deck_run.{specs.Runs.{run_state_of}, proofs.Ordered.{output_with, in_two, is_run}}
@@ -98,7 +98,7 @@ however_cut start f pieces out a b begin took =
     (all.marks, λ rest bytes. all.is rest bytes ∙ begin (all.marks ++ rest) (joined pieces ++ bytes))
 
 pub read_back_is_stored : ReadBackIsStored
-read_back_is_stored sets back = text_is_stored Two (lines (catalogue_text sets)) sets ((reading_spells Two (lines (catalogue_text sets)) sets).1 back.same)
+read_back_is_stored sets back = text_is_stored Two (lines (catalogue_text sets)) sets ((reading_spells Two (lines (catalogue_text sets)) sets).1 (read_back sets back))
 
 -- the text of a deck
 deck_text : (table : List (List ℕ)) (sets : Sets) → text_of (deck_lines table sets) ≡ deck_around table (closing sets Stopped)

@@ -30,9 +30,7 @@ end_told false (Err _) = []
 
 -- whether a run broke off before its deck came to its end
 abbrev pub is_broken : Result Counts RunError → Bool
-is_broken (Ok counts) = false
-is_broken (Err (DeckRefused n code)) = false
-is_broken (Err _) = true
+is_broken result = elim result [ Ok counts ↦ false | Err (DeckRefused n code) ↦ false | Err _ ↦ true ]
 
 -- so much holds of what was put, and then this text was
 abbrev pub Then : (Standing → Type 0) → List ℕ → Standing → Type 0

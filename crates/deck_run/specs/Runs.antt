@@ -14,7 +14,8 @@ use Rattle.mon_device.specs.Putting.{Standing, Puts}
 use Rattle.deck_driver.specs.declared.options.Options.{Options}
 use Rattle.deck_driver.specs.declared.options.Counts.{Counts}
 pub use Rattle.deck_driver.specs.RunStates.{run_state_of}
-use Rattle.deck_driver.specs.RunStates.{played_run_state, all_counted}
+use Rattle.deck_driver.specs.RunStates.{events_in, all_counted}
+use Rattle.mon_monitor.specs.Played.{played}
 use Rattle.deck_driver.specs.Printouts.{output_of, ReadsBack}
 use Rattle.deck_driver.specs.Feeds.{Begins}
 use Rattle.deck_driver.specs.Audits.{audit_for}
@@ -27,7 +28,7 @@ deck_ending bytes = let deck = deck_of (lines bytes) in deck.cards.ending
 
 -- the catalogue after all that these bytes ask for
 abbrev pub catalogue_after : Options → Marks → List ℕ → Sets
-catalogue_after options marks bytes = let p = played_run_state 0 marks (run_state_of options bytes) in p.after.scheduler.sets
+catalogue_after options m bytes = let s = run_state_of options bytes in let p = played (events_in 0 s) m s.system in p.after.scheduler.sets
 
 -- how many jobs and commands there are
 abbrev pub counts_of : List ℕ → Counts
@@ -72,13 +73,10 @@ pub record HasAnswered (options : Options) (held now : Option (List ℕ)) (front
 abbrev pub HasPrinted : Options → Option (List ℕ) → Option (List ℕ) → Option (List ℕ) → Option (List ℕ) → Standing → Standing → Type 0
 HasPrinted options told left held now a b = (given : List ℕ) × Gives told given left × HasAnswered options held now given a b
 
--- the lines of these bytes have been answered, and to the audit more may have been put
-abbrev pub HasAnsweredAtLeast : Options → Option (List ℕ) → Option (List ℕ) → List ℕ → Standing → Standing → Type 0
-HasAnsweredAtLeast options held now front a b = (mid : Standing) × HasAnswered options held now front a mid × (more : List ℕ) × Puts mid b more
-
 -- What is due when memory runs out at this line: it is of the last read, and the lines before it have been answered. The deck had not
 -- come to its `$STOP`. The audit goes on with a beginning of what that line tells.
 abbrev pub HasBrokenOff : Options → ℕ → Option (List ℕ) → Option (List ℕ) → Option (List ℕ) → Option (List ℕ) → Standing → Standing → Type 0
 HasBrokenOff options line told left held now a b =
     (given front back : List ℕ) × Gives told given left × (given ≡ front ++ back) × (length back ≤ READ_SIZE)
-    × HasAnsweredAtLeast options held now front a b × (deck_ending (whole_lines front) ≡ Stopped → ⊥) × (line ≡ length (lines (whole_lines front)) + 1)
+    × ((mid : Standing) × HasAnswered options held now front a mid × (more : List ℕ) × Puts mid b more) × (deck_ending (whole_lines front) ≡ Stopped → ⊥)
+    × (line ≡ length (lines (whole_lines front)) + 1)

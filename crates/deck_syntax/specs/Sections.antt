@@ -56,8 +56,7 @@ accounts_refusal accounts line =
 
 -- the data sets of a whole text
 abbrev pub sets_of : Progress → Sets
-sets_of (progress.SetDue version n sets) = sets
-sets_of _ = []
+sets_of reached = elim reached [ progress.SetDue version n sets ↦ sets | _ ↦ [] ]
 
 -- where a `$SET` line is due, any line that is neither blank nor one ends the catalogue
 abbrev pub ends_catalogue : Progress → List ℕ → Bool

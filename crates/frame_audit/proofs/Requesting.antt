@@ -6,8 +6,8 @@ use Rattle.mon_command.specs.Commanded.{Answer}
 use Rattle.mon_access.specs.Accounts.{find_account}
 use Rattle.audit.specs.{declared.request.AuditedRequest.{AuditedRequest}, declared.grants.Grant.{Grant}, Requests.{asked_of, request_line, place_in, grant}}
 use Rattle.audit.specs.{Grants.{command_grant, known_grant, by_owner, to_see_list, by_entry}, Catalogs.{shown_lines}}
-use Rattle.audit.specs.Commands.{said_line, spelled, ordered_lines}
-use Rattle.mon_monitor.proofs.Common.{Account, DataSet, Sets, find_set, Command, Create, Delete, SetAcl, ShowAcl, Catalog, account_of, said_of, answered, to_read, Request, Reach, serve, set_of, note_act, unit_of, UnitState, tie_at, Tie, looks_at_tied, Asking, Asks, Returns, asked_by, exchanged_line}
+use Rattle.audit.specs.{Ordered.{card_words, outcome_words, ordered_lines}, Words.{command_line}}
+use Rattle.mon_monitor.proofs.Common.{Account, DataSet, Sets, find_set, Command, Create, Delete, SetAcl, ShowAcl, Catalog, account_of, answered, to_read, Request, Reach, serve, set_of, note_act, unit_of, UnitState, tie_at, Tie, looks_at_tied, Asking, Asks, Returns, asked_by, exchanged_line}
 use Rattle.frame_laws.specs.Naming.{of_names, command_names, command_makes}
 use Rattle.frame_laws.proofs.{Filtering.{found}, Serving.{Beside, ReachesStand, each, answered_beside}}
 
@@ -120,5 +120,5 @@ module _ (p : List ℕ → Bool) (rest : Sets) (n : ℕ) (sets alone : Sets) (h 
       let known = find_account accounts (account_of command) in
       let answer = (answered accounts alone command).answer in
       ap (λ (a : Answer). ordered_lines known sets command a) (answered_beside p rest accounts command n sets alone covers room h).answer
-      ∙ ap (λ (g : Option Grant). said_line command (said_of answer) (spelled command) g ++ shown_lines known sets command) (known_alike known command covers)
-      ∙ ap (λ (t : List ℕ). said_line command (said_of answer) (spelled command) (known_grant known alone command) ++ t) (shown_alike known command covers)
+      ∙ ap (λ (g : Option Grant). command_line (account_of command) (card_words command ++ outcome_words command g answer) ++ shown_lines known sets command) (known_alike known command covers)
+      ∙ ap (λ (t : List ℕ). command_line (account_of command) (card_words command ++ outcome_words command (known_grant known alone command) answer) ++ t) (shown_alike known command covers)

@@ -23,8 +23,7 @@ use Rattle.load_refusal.specs.declared.load_error.LoadError.TheVariants.{NoSlot,
 
 -- what was asked of: the data set, or the unit where there is none
 abbrev pub target_words : NoteTarget → List ℕ
-target_words (Set name) = word name
-target_words (UnitOf unit) = codes " UNIT" ++ number unit
+target_words target = elim target [ Set name ↦ word name | UnitOf unit ↦ codes " UNIT" ++ number unit ]
 
 -- the statement at which something was asked for, what, and of what
 abbrev pub exchange_words : Note → List ℕ
@@ -32,8 +31,7 @@ exchange_words note = codes " STATEMENT" ++ number note.statement ++ word (act_w
 
 -- it was denied, and why; or there was no room for the record
 abbrev pub note_words : Why → List ℕ → List ℕ
-note_words (Denied reason) exchange = codes "DENIED" ++ exchange ++ word (reason_text reason)
-note_words Full exchange = codes "FULL" ++ exchange
+note_words note exchange = elim note [ Denied reason ↦ codes "DENIED" ++ exchange ++ word (reason_text reason) | Full ↦ codes "FULL" ++ exchange ]
 
 abbrev pub note_line : Note → List ℕ
 note_line note = note_words note.why (exchange_words note) ++ codes "\n"
@@ -55,8 +53,7 @@ printout end =
 
 -- a unit card that ties a unit that there is not, or once more
 abbrev pub unit_refusal : UnitError → List ℕ
-unit_refusal (UnitRange unit) = codes "U2 UNIT" ++ number unit
-unit_refusal (UnitTwice unit) = codes "U1 UNIT" ++ number unit
+unit_refusal refusal = elim refusal [ UnitRange unit ↦ codes "U2 UNIT" ++ number unit | UnitTwice unit ↦ codes "U1 UNIT" ++ number unit ]
 
 -- where the program is refused: the card counted from the job's first, and its column
 abbrev pub syntax_words : SyntaxError → List ℕ

@@ -1,7 +1,7 @@
 -- Events of jobs that have other numbers.
 use Rattle.std.proofs.Common.{◌≡◌, ℕ, List, [], ◌∷◌, ◌++◌, Option, Some, None, Result, Ok, Err, refl, sym, ap, ap₂, ◌∙◌, map, replicate, is_some}
 use Rattle.std.proofs.lemmas.List.{map-append}
-use Rattle.mon_monitor.proofs.Common.{Account, find_account, Program, statements_of, JobDeck, LoadError, JobEnd, SlotState, SchedulerState, first_free, load_refusal, deck_refusal, loaded_by, job_loaded, slot_in, slot_by, program_in, missing, NoSlot, option_or, Marks, Past, until, never, rounds_until, is_done, has_free_slot, room, SystemState, Event, Serve, Load, Give, Drain, Printout, OfJob, Played, of_turns, of_loading, then_played, happened, played, Entry, load_entry, event_entries, history, entries_of_rounds}
+use Rattle.mon_monitor.proofs.Common.{Account, find_account, Program, statements_of, JobDeck, LoadError, JobEnd, SlotState, SchedulerState, first_free, load_refusal, job_refusal, loaded_by, job_loaded, slot_in, slot_by, program_in, missing, NoSlot, option_or, Marks, Past, until, never, rounds_until, is_done, has_free_slot, room, SystemState, Event, Serve, Load, Give, Drain, Printout, OfJob, Played, of_turns, of_loading, then_played, happened, played, Entry, load_entry, event_entries, history, entries_of_rounds}
 use Rattle.mon_monitor.proofs.Parts.{of_load, and_played}
 use Rattle.job_numbers.specs.Numbers.{deck_as, event_as, end_as, printout_as, entry_as}
 use Rattle.job_numbers.proofs.Seating.{seat_as, seats_as, scheduler_as, system_as, with_seat_as, first_free_as, none_as}
@@ -47,7 +47,7 @@ module _ (f : ℕ → ℕ) where
 
   job_as : (accounts : List Account) (deck : JobDeck) (slots : List (Option SlotState)) → job_loaded accounts (deck_as f deck) (seats_as f slots) ≡ loaded_as (job_loaded accounts deck slots)
   job_as accounts deck slots =
-      ap (λ (o : Option ℕ). loaded_by (option_or (missing NoSlot o) (deck_refusal accounts deck)) o (slot_in accounts (deck_as f deck)) (seats_as f slots)) (first_free_as f slots)
+      ap (λ (o : Option ℕ). loaded_by (option_or (missing NoSlot o) (job_refusal accounts deck)) o (slot_in accounts (deck_as f deck)) (seats_as f slots)) (first_free_as f slots)
       ∙ ap (λ (seat : Option SlotState). loaded_by (load_refusal accounts deck slots) (first_free slots) seat (seats_as f slots))
       (slot_by_as deck (find_account accounts deck.account) (program_in (statements_of deck.lines)))
       ∙ by_as (load_refusal accounts deck slots) (first_free slots) (slot_in accounts deck) slots

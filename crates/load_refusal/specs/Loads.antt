@@ -24,15 +24,13 @@ cards_refused (card ∷ cards) tied = option_or (refused_by card.unit tied) (car
 -- THE PROGRAM
 
 abbrev pub program_refusal : Result ProgramText SyntaxError → Option LoadError
-program_refusal (Ok cards) = option_map Syntax (syntax_refusal cards)
-program_refusal (Err refusal) = Some (Syntax refusal)
+program_refusal it = elim it [ Ok cards ↦ option_map Syntax (syntax_refusal cards) | Err refusal ↦ Some (Syntax refusal) ]
 
 -- THE JOB
 
 -- refused where it is missing
 abbrev pub missing : {A : Type 0} → LoadError → Option A → Option LoadError
-missing refusal (Some it) = None
-missing refusal None = Some refusal
+missing refusal found = elim found [ Some it ↦ None | None ↦ Some refusal ]
 
 -- why a job is not loaded where a slot is free: its account, its unit cards, its program
 abbrev pub job_refusal : List Account → JobDeck → Option LoadError

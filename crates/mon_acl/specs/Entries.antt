@@ -14,12 +14,7 @@ use Rattle.std.specs.Option.{is_none, option_map_or, unwrap_or}
 
 -- the types in canonical order (own)
 abbrev pub rank : Tag → ℕ
-rank UserObj = 0
-rank User = 1
-rank GroupObj = 2
-rank Group = 3
-rank Mask = 4
-rank Other = 5
+rank tag = elim tag [ UserObj ↦ 0 | User ↦ 1 | GroupObj ↦ 2 | Group ↦ 3 | Mask ↦ 4 | Other ↦ 5 ]
 
 -- whether two types are the same
 abbrev pub is_tag : Tag → Tag → Bool

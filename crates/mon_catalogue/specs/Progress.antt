@@ -40,8 +40,7 @@ lines_taken _ = 0
 
 -- whether a `$SET` line is due
 abbrev pub is_due : Progress → Bool
-is_due (SetDue _ _ _) = true
-is_due _ = false
+is_due reached = elim reached [ SetDue _ _ _ ↦ true | _ ↦ false ]
 
 -- the set has so many more records to come
 abbrev pub with_due : Version → ℕ → Sets → List ℕ → DataSet → ℕ → Progress

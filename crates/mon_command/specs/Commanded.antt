@@ -42,23 +42,17 @@ abbrev pub told_by : {A : Type 0} → (A → Reply) → A × Sets → Served
 told_by reply outcome = record { answer = Told (reply outcome.0); sets = outcome.1 }
 
 abbrev pub creation_reply : Result (Unit {0}) CreateError → Reply
-creation_reply (Ok _) = Done
-creation_reply (Err create.NameTaken) = NameTaken
-creation_reply (Err create.CatalogueFull) = CatalogueFull
+creation_reply made = elim made [ Ok _ ↦ Done | Err create.NameTaken ↦ NameTaken | Err create.CatalogueFull ↦ CatalogueFull ]
 
 abbrev pub removal_reply : Result (Unit {0}) Reason → Reply
-removal_reply (Ok _) = Done
-removal_reply (Err reason) = Denied reason
+removal_reply removed = elim removed [ Ok _ ↦ Done | Err reason ↦ Denied reason ]
 
 abbrev pub acl_reply : AclAnswer → Reply
-acl_reply acl.Done = Done
-acl_reply (acl.Denied reason) = Denied reason
-acl_reply (acl.BadList error) = BadList error
+acl_reply set = elim set [ acl.Done ↦ Done | acl.Denied reason ↦ Denied reason | acl.BadList error ↦ BadList error ]
 
 -- what the guard lends is shown, or it is told why it is denied; the data sets stay
 abbrev pub shown_as : {A : Type 0} → (A → Answer) → Result A Reason → Answer
-shown_as show (Ok lent) = show lent
-shown_as show (Err reason) = Told (Denied reason)
+shown_as show answer = elim answer [ Ok lent ↦ show lent | Err reason ↦ Told (Denied reason) ]
 
 -- what a known account is answered
 abbrev pub served : Account → Command → Sets → Served

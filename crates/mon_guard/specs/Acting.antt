@@ -45,8 +45,7 @@ changing change records =
     (record { answer = Done; position = elim change [ Add line ↦ None | put ↦ Some (length (records_after put records)) ]; change = Some change })
 
 abbrev pub asks : Act → Perms
-asks (Read position) = to_read
-asks act = to_write
+asks asked = elim asked [ Read position ↦ to_read | act ↦ to_write ]
 
 -- what is granted, by the set's mode: at the end of a set the records before the position stay; of a set that is only added to all
 abbrev pub done : Act → DataSet → Acted

@@ -35,8 +35,7 @@ where_granted account request set granted =
     elim (decision_on account set request) [ decision.Granted ↦ Ok granted | decision.Denied decider ↦ Err (reason_of set.acl decider) ]
 
 abbrev pub is_granted : Decision → Bool
-is_granted decision.Granted = true
-is_granted (decision.Denied d) = false
+is_granted decided = elim decided [ decision.Granted ↦ true | decision.Denied d ↦ false ]
 
 -- a name is shown exactly where x is granted
 abbrev pub may_be_shown : Account → List ℕ × DataSet → Bool

@@ -1,6 +1,6 @@
 -- The words of these proofs: definitions, and lemmas of the crates below.
 pub use Rattle.audit.proofs.{Named.{read_named}, Ordered.{ordered_is}}
-pub use Rattle.audit.specs.{Commands.{ordered_lines}, Grants.{by_entry, by_owner, command_grant, granting_entry, to_see_list}, inner.Parts.{lines_after}}
+pub use Rattle.audit.specs.{Ordered.{ordered_lines}, Grants.{by_entry, by_owner, command_grant, granting_entry, to_see_list}, inner.Parts.{lines_after}}
 pub use Rattle.audit.specs.{Laws.{ChangesAreNamed, EntriesAreNamed, GrantsAreNamed}, declared.grants.Grant.TheVariants.{AsOwner, ByEntry}}
 pub use Rattle.deck_lines.specs.{Commands.{account_of}, declared.command.Command.{Command}}
 pub use Rattle.deck_lines.specs.declared.command.Command.TheVariants.{Catalog, Create, Delete, SetAcl, ShowAcl}
@@ -13,7 +13,7 @@ pub use Rattle.interaction.specs.declared.answer.{Answer.TheVariants.{Denied, Do
 pub use Rattle.interaction.specs.declared.{answer.Reason.TheVariants.{By, NoSet, NotOwner}, request.Act.{Act}, request.Request.{Request}}
 pub use Rattle.job_end.specs.{AuditLines.{ended_line, loaded_line, refused_line}, Printouts.{printout, refusal_text}, declared.job_end.JobEnd.{JobEnd}}
 pub use Rattle.job_end.specs.declared.turned.Turned.{Turned, TheVariants.{Empty, Goes}}
-pub use Rattle.load_refusal.specs.{Loads.{missing, program_refusal}, declared.load_error.LoadError.{LoadError}}
+pub use Rattle.load_refusal.specs.{Loads.{cards_refused, job_refusal, missing, program_refusal}, declared.load_error.LoadError.{LoadError}}
 pub use Rattle.load_refusal.specs.declared.load_error.LoadError.TheVariants.{Cards, NoAccount, NoSlot, Syntax}
 pub use Rattle.mon_access.specs.{Accounts.{find_account}, Matches.{is_owner}, declared.access.Decision.{Decision}, declared.account.Account.{Account}}
 pub use Rattle.acl_text.specs.{Forms.{list_of_text}, declared.text.AclText.{AclText}}
@@ -65,7 +65,7 @@ pub use Rattle.scheduler.specs.{Exchanged.{Exchanged, asked_by, asked_in, whole_
 pub use Rattle.scheduler.specs.{States.{SchedulerState, SlotState, first_free, job_in, scheduler, seat_at, with_seat}, Ties.{Independent}}
 pub use Rattle.scheduler.specs.{Turning.{DrainIs, MarkedIs, RoomIs, TurnOr, UntilIs, end_in}, declared.slots.Slots.{Slots}}
 pub use Rattle.scheduler.specs.{Turns.{after_turn, ends_by, job_end, ran, reached, seat, told, turn_by, turns}, inner.Parts.{broken_turn, ends_then, slot_by}}
-pub use Rattle.scheduler.specs.Loads.{deck_refusal, first_units, job_loaded, load_refusal, loaded_by, loaded_slot, program_in, slot_in, tied_by, ties_refusal, with_ties}
+pub use Rattle.scheduler.specs.Loads.{first_units, job_loaded, load_refusal, loaded_by, loaded_slot, program_in, slot_in, tied_by, with_ties}
 pub use Rattle.scheduler.specs.Marks.{Mark, Marks, Past, counted, drain, exchanges_at, has_free_slot, is_done, mark_of, marked, may_break, never, nothing, passed_at, ran_as, room, rounds, rounds_until, turn_as, turns_left, until}
 pub use Rattle.sno_cards.specs.{Answers.{IfRefused}, Programs.{ProgramText}, Statements.{statements_of}, declared.refusal.SyntaxError.{SyntaxError}}
 pub use Rattle.sno_run.proofs.Tallying.{turn_counts}

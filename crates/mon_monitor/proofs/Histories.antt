@@ -1,6 +1,6 @@
 -- Events one after the other, and what marks have to do with them.
-use Rattle.std.proofs.Common.{◌≡◌, ◌≢◌, ℕ, Bool, true, List, [], ◌∷◌, ◌++◌, length, Option, Some, None, Result, Ok, Err, refl, ap, sym, ◌∙◌, inl, inr, append_assoc, map, option_map, is_some, replicate}
-use Rattle.mon_monitor.proofs.Common.{AllByRecursion, option_or, SyntaxError, ProgramText, statements_of, syntax_refusal, Account, find_account, UnitError, JobDeck, JobEnd, LoadError, NoSlot, NoAccount, Cards, Syntax, SlotState, SchedulerState, first_free, Marks, Past, turn_as, until, never, rounds, turns_left, is_done, has_free_slot, room, NoneByMemory, MarksEndJobs, RoomIsMade, missing, program_refusal, first_units, ties_refusal, deck_refusal, loaded_by, slot_in, seat_length, either_way, until_stops, until_goes, until_length, SystemState, with_scheduler, Event, Serve, Load, Give, Drain, Printout, printouts_text, Played, loading, of_turns, happened, played, CardByCard, PrintedInOrder, NotByMemory, AsUnmarked, PlayedUnmarked, LoadHasRoom, AccountsStay, SlotsStay}
+use Rattle.std.proofs.Common.{◌≡◌, ◌≢◌, ℕ, Bool, true, false, List, [], ◌∷◌, ◌++◌, length, Option, Some, None, Result, Ok, Err, refl, ap, sym, ◌∙◌, inl, inr, append_assoc, map, option_map, is_some, replicate}
+use Rattle.mon_monitor.proofs.Common.{AllByRecursion, option_or, SyntaxError, ProgramText, statements_of, syntax_refusal, Account, find_account, UnitError, JobDeck, JobEnd, LoadError, NoSlot, NoAccount, Cards, Syntax, SlotState, SchedulerState, first_free, Marks, Past, turn_as, until, never, rounds, turns_left, is_done, has_free_slot, room, NoneByMemory, MarksEndJobs, RoomIsMade, cards_refused, missing, program_refusal, job_refusal, loaded_by, slot_in, seat_length, either_way, until_stops, until_goes, until_length, SystemState, with_scheduler, Event, Serve, Load, Give, Drain, Printout, printouts_text, Played, loading, of_turns, happened, played, CardByCard, PrintedInOrder, NotByMemory, AsUnmarked, PlayedUnmarked, LoadHasRoom, AccountsStay, SlotsStay}
 use Rattle.mon_monitor.proofs.{Parts.{of_load, and_played}, Playing.{printouts_append}, Shorthand.{of_ends}}
 
 pub card_by_card : CardByCard
@@ -109,8 +109,8 @@ answer_not (Some n) (Some r) slot slots h g e = g (let k : Err r ≡ Err NoSlot 
 pub load_has_room : RoomIsMade → LoadHasRoom
 load_has_room law deck m w some =
     let v = with_scheduler w (room m w.scheduler).after in
-    answer_not (first_free v.scheduler.slots) (deck_refusal v.accounts deck) (slot_in v.accounts deck) v.scheduler.slots (law w.scheduler m some)
-    (deck_not (find_account v.accounts deck.account) (ties_refusal deck.ties (first_units deck.lines)) (statements_of deck.lines))
+    answer_not (first_free v.scheduler.slots) (job_refusal v.accounts deck) (slot_in v.accounts deck) v.scheduler.slots (law w.scheduler m some)
+    (deck_not (find_account v.accounts deck.account) (cards_refused deck.ties (replicate 100 false)) (statements_of deck.lines))
 
 -- WHAT STAYS
 

@@ -1,6 +1,6 @@
 -- What the history tells of each job, event by event.
 use Rattle.std.proofs.Common.{◌≡◌, ◌≢◌, ◌⊎◌, ◌==◌, ℕ, zero, suc, ◌-◌, ◌≤◌, Bool, true, false, List, [], ◌∷◌, ◌++◌, length, map, replicate, Option, Some, None, refl, ap, sym, ◌∙◌, subst, inl, inr, arith, append_assoc, append-nil, if◌then◌else◌, is_some, drop}
-use Rattle.mon_monitor.proofs.Common.{filter-append, eqb-true, option_or, Ending, Step, Job, counted_turn, turn_of, statements_begun, statements_of, Program, Account, find_account, UnitState, Reach, serve, run, passed_begins, Sets, account_of, answered, UnitCard, JobDeck, LoadError, NoSlot, NoAccount, SlotState, SchedulerState, scheduler, seat_at, with_seat, job_in, first_free, missing, program_refusal, first_units, tied_by, with_ties, program_in, deck_refusal, loaded_slot, slot_in, loaded_by, job_loaded, slot_by, broken_turn, ends_then, reached, ran, ends_by, Mark, Marks, mark_of, passed_at, exchanges_at, may_break, ran_as, turn_as, Past, nothing, until, never, is_done, has_free_slot, room, SystemState, Event, Serve, Load, Give, Drain, happened, played, whole_turn, asked_in, Entered, Asked, Ordered, end_entry, turn_entries, entries_until, load_entry, event_entries, history, is_of, own, IsJob, job_of, NumbersDiffer, serve_fits, turn_counts, IsSeat, seat_changed, free_seat, turn_as_by, broken_by, system, eq-eqb, Memory, Entry, Refused}
+use Rattle.mon_monitor.proofs.Common.{filter-append, eqb-true, option_or, Ending, Step, Job, counted_turn, turn_of, statements_begun, statements_of, Program, Account, find_account, UnitState, Reach, serve, run, passed_begins, Sets, account_of, answered, UnitCard, JobDeck, LoadError, NoSlot, NoAccount, SlotState, SchedulerState, scheduler, seat_at, with_seat, job_in, first_free, missing, program_refusal, first_units, tied_by, with_ties, program_in, job_refusal, loaded_slot, slot_in, loaded_by, job_loaded, slot_by, broken_turn, ends_then, reached, ran, ends_by, Mark, Marks, mark_of, passed_at, exchanges_at, may_break, ran_as, turn_as, Past, nothing, until, never, is_done, has_free_slot, room, SystemState, Event, Serve, Load, Give, Drain, happened, played, whole_turn, asked_in, Entered, Asked, Ordered, end_entry, turn_entries, entries_until, load_entry, event_entries, history, is_of, own, IsJob, job_of, NumbersDiffer, serve_fits, turn_counts, IsSeat, seat_changed, free_seat, turn_as_by, broken_by, system, eq-eqb, Memory, Entry, Refused}
 use Rattle.sno_run.specs.declared.ending.Step.TheVariants as step
 use Rattle.mon_monitor.proofs.{Histories.{event_accounts}, Accounting.{in_rounds}, Exchanging.{whole_told, cut_told, all_passed, all_told, all_asked, cut_asks}}
 use Rattle.mon_monitor.proofs.Telling.{same_or_not, not_same, AreOf, none_of, more_of, number_is, number_not, own_more, own_same, Sitting, goes_on, Turn, Again, IsToCome, SoFar, still_job, turn_far}
@@ -177,7 +177,7 @@ module _ (accounts : List Account) (J : ℕ → Option JobDeck) (numbered : (n :
     entry_of entry is not = more_of deck.number entry [] is not (none_of deck.number)
 
     -- it is refused
-    refused_far : (refusal : LoadError) → deck_refusal accounts deck ≡ Some refusal → Far E (H ++ Refused deck refusal ∷ []) slots
+    refused_far : (refusal : LoadError) → job_refusal accounts deck ≡ Some refusal → Far E (H ++ Refused deck refusal ∷ []) slots
     refused_far refusal why =
         let entry = Refused deck refusal in
         let its = entry_of entry (number_is deck.number deck.number refl) (number_not deck.number deck.number refl) in
@@ -189,7 +189,7 @@ module _ (accounts : List Account) (J : ℕ → Option JobDeck) (numbered : (n :
         }
 
     -- or loaded, into an empty seat
-    module _ (s : ℕ) (free : IsSeat s slots × (seat_at s slots ≡ None)) (good : deck_refusal accounts deck ≡ None) (account : Account) (known : find_account accounts deck.account ≡ Some account)
+    module _ (s : ℕ) (free : IsSeat s slots × (seat_at s slots ≡ None)) (good : job_refusal accounts deck ≡ None) (account : Account) (known : find_account accounts deck.account ≡ Some account)
         (p : Program) (spelled : program_in (statements_of deck.lines) ≡ Some p) (empty : (with_ties deck.ties (first_units deck.lines)).spool ≡ []) (blank : (with_ties deck.ties (first_units deck.lines)).notes ≡ []) where
       abbrev state : SlotState
       state = loaded_slot account deck p
@@ -290,10 +290,10 @@ module _ (accounts : List Account) (J : ℕ → Option JobDeck) (numbered : (n :
     enters : (deck : JobDeck) (E : List Event) (H : List Entry) (slots : List (Option SlotState)) → Far (Load deck ∷ E) H slots → job_of deck.number E ≡ None
         → (s : ℕ) → first_free slots ≡ Some s → Far E (H ++ load_entry deck (job_loaded accounts deck slots).0) (job_loaded accounts deck slots).1
     enters deck E H slots far once s free =
-        subst (λ (o : Option ℕ). (let l = loaded_by (option_or (missing NoSlot o) (deck_refusal accounts deck)) o (slot_in accounts deck) slots in Far E (H ++ load_entry deck l.0) l.1)) (sym free)
-        (by (deck_refusal accounts deck) refl)
+        subst (λ (o : Option ℕ). (let l = loaded_by (option_or (missing NoSlot o) (job_refusal accounts deck)) o (slot_in accounts deck) slots in Far E (H ++ load_entry deck l.0) l.1)) (sym free)
+        (by (job_refusal accounts deck) refl)
       where
-        by : (refusal : Option LoadError) → deck_refusal accounts deck ≡ refusal
+        by : (refusal : Option LoadError) → job_refusal accounts deck ≡ refusal
             → (let l = loaded_by refusal (Some s) (slot_in accounts deck) slots in Far E (H ++ load_entry deck l.0) l.1)
         by (Some refusal) is = refused_far spell deck E H slots far once refusal is
         by None is =

@@ -1,6 +1,6 @@
 -- What each card brings, turn by turn.
 use Rattle.std.proofs.Common.{◌≡◌, ◌≢◌, ℕ, zero, suc, ◌+◌, ◌*◌, ◌%◌, ◌<◌, ◌≤◌, Bool, true, false, List, [], ◌∷◌, ◌++◌, length, map, take, replicate, Option, Some, None, Result, refl, ap, sym, ◌∙◌, subst, inl, inr, arith, if◌then◌else◌, is_some, is_none, IsSome, drop, slice_get}
-use Rattle.mon_monitor.proofs.Common.{AllByRecursion, flat_map, list_all, list_any, range_with_len, position_from, option_flatten, option_or, lt-ltb, le-ltb, mod-mul-add, suc-mul, Returns, Asks, Asking, Beginning, Requesting, Counted, requests_in, statements_in, Done, Ending, Step, Job, counted_turn, turn_of, statements_begun, statements_of, Program, Account, find_account, Sets, account_of, answered, Reach, serve, run, passed, passing, serve_fits, JobDeck, LoadError, NoSlot, SlotState, SchedulerState, seat_at, with_seat, job_in, first_free, missing, program_in, deck_refusal, loaded_slot, slot_in, loaded_by, job_loaded, slot_by, broken_turn, ends_then, reached, ran, after_turn, seat, told, ends_by, Mark, Marks, mark_of, exchanges_at, may_break, ran_as, turn_as, Past, nothing, until, never, rounds, turns_left, is_done, has_free_slot, room, RoomIsMade, turn_length, until_goes, enough, turn_as_by, broken_by, SystemState, first_system, system, Event, Serve, Load, Give, Drain, happened, played, SlotsStay, Exchanged, asked_by, whole_turn, asked_in, Entered, Asked, end_entry, turn_entries, entries_until, load_entry, event_entries, history, exchanges, Seats, Stage, left_as, IsTurn, TurnOf, Take, Turns, IsLowestFree, Loads, Brings, BringInOrder, IsUnbroken, TurnsCome, Passed, Memory, Entry, Refused, in_rounds}
+use Rattle.mon_monitor.proofs.Common.{AllByRecursion, flat_map, list_all, list_any, range_with_len, position_from, option_flatten, option_or, lt-ltb, le-ltb, mod-mul-add, suc-mul, Returns, Asks, Asking, Beginning, Requesting, Counted, requests_in, statements_in, Done, Ending, Step, Job, counted_turn, turn_of, statements_begun, statements_of, Program, Account, find_account, Sets, account_of, answered, Reach, serve, run, passed, passing, serve_fits, JobDeck, LoadError, NoSlot, SlotState, SchedulerState, seat_at, with_seat, job_in, first_free, missing, program_in, job_refusal, loaded_slot, slot_in, loaded_by, job_loaded, slot_by, broken_turn, ends_then, reached, ran, after_turn, seat, told, ends_by, Mark, Marks, mark_of, exchanges_at, may_break, ran_as, turn_as, Past, nothing, until, never, rounds, turns_left, is_done, has_free_slot, room, RoomIsMade, turn_length, until_goes, enough, turn_as_by, broken_by, SystemState, first_system, system, Event, Serve, Load, Give, Drain, happened, played, SlotsStay, Exchanged, asked_by, whole_turn, asked_in, Entered, Asked, end_entry, turn_entries, entries_until, load_entry, event_entries, history, exchanges, Seats, Stage, left_as, IsTurn, TurnOf, Take, Turns, IsLowestFree, Loads, Brings, BringInOrder, IsUnbroken, TurnsCome, Passed, Memory, Entry, Refused, in_rounds}
 use Rattle.interaction.specs.Asking as asking
 use Rattle.sno_run.specs.declared.ending.Step.TheVariants as step
 use Rattle.mon_monitor.{proofs.Unbroken.{turn_unbroken}, specs.Turns.{given}, proofs.Histories.{event_accounts}, proofs.Turning.{seat_after}}
@@ -278,8 +278,8 @@ Enters accounts deck slots l = (entry : Entry) × (load_entry deck l.0 ≡ entry
 
 enters : (accounts : List Account) (deck : JobDeck) (slots : Seats) (s : ℕ) → first_free slots ≡ Some s → Enters accounts deck slots (job_loaded accounts deck slots)
 enters accounts deck slots s free =
-    subst (λ (o : Option ℕ). Enters accounts deck slots (loaded_by (option_or (missing NoSlot o) (deck_refusal accounts deck)) o (slot_in accounts deck) slots)) (sym free)
-    (by (deck_refusal accounts deck))
+    subst (λ (o : Option ℕ). Enters accounts deck slots (loaded_by (option_or (missing NoSlot o) (job_refusal accounts deck)) o (slot_in accounts deck) slots)) (sym free)
+    (by (job_refusal accounts deck))
   where
     by : (refusal : Option LoadError) → Enters accounts deck slots (loaded_by refusal (Some s) (slot_in accounts deck) slots)
     by (Some refusal) = (Refused deck refusal, refl, inr (refusal, refl, refl))
@@ -345,7 +345,7 @@ module _ (accounts : List Account) (made : (w : SchedulerState) (m : Marks) → 
   card_going (Serve command) m f going = going
   card_going (Load deck) m f going =
       let slots = (room m f).after.slots in
-      going_loaded accounts deck slots (option_or (missing NoSlot (first_free slots)) (deck_refusal accounts deck)) (first_free slots)
+      going_loaded accounts deck slots (option_or (missing NoSlot (first_free slots)) (job_refusal accounts deck)) (first_free slots)
       (going_until has_free_slot (in_turn f) m f going)
   card_going (Give slot count) m f going = going_until never (replicate count slot) m f going
   card_going Drain m f going = going_until is_done (in_turn f) m f going

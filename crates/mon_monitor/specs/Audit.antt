@@ -6,8 +6,8 @@ use Rattle.deck_syntax.specs.declared.job_deck.JobDeck.{JobDeck}
 use Rattle.scheduler.specs.Marks.{Marks}
 use Rattle.mon_command.specs.Printouts.{number}
 use Rattle.audit.specs.Words.{job_line}
-use Rattle.audit.specs.Requests.{request_line, asked_of}
-use Rattle.audit.specs.Commands.{ordered_lines}
+use Rattle.audit.specs.Requests.{exchange_line}
+use Rattle.audit.specs.Ordered.{ordered_lines}
 use Rattle.job_end.specs.Printouts.{ending_words, refusal_words}
 use Rattle.mon_monitor.specs.SystemStates.{SystemState}
 use Rattle.mon_monitor.specs.Events.{Event}
@@ -17,7 +17,7 @@ use Rattle.mon_monitor.specs.History.{Entry, Entered, Refused, Asked, Ended, Ord
 abbrev pub audit_line : Entry → List ℕ
 audit_line (Entered deck) = job_line deck.number deck.account (codes " LOADED")
 audit_line (Refused deck refusal) = job_line deck.number deck.account (codes " REFUSED " ++ refusal_words refusal)
-audit_line (Asked e) = request_line (asked_of e.number e.account e.reach e.request) e.answer
+audit_line (Asked e) = exchange_line e.number e.account e.reach e.request e.answer
 audit_line (Ended end) = job_line end.number end.account (codes " ENDED" ++ ending_words end.ending ++ codes " AFTER" ++ number end.statements)
 audit_line (Ordered known sets command answer) = ordered_lines known sets command answer
 

@@ -43,7 +43,8 @@ use Rattle.deck_syntax.specs.declared.job_deck.JobDeck.{JobDeck}
 use Rattle.job_end.specs.declared.job_end.JobEnd.{JobEnd}
 use Rattle.load_refusal.specs.declared.load_error.LoadError.{LoadError}
 use Rattle.scheduler.specs.States.{SlotState, seat_at}
-use Rattle.scheduler.specs.Loads.{first_units, with_ties, program_in, deck_refusal}
+use Rattle.load_refusal.specs.Loads.{job_refusal}
+use Rattle.scheduler.specs.Loads.{first_units, with_ties, program_in}
 use Rattle.scheduler.specs.Marks.{Marks}
 use Rattle.mon_monitor.specs.SystemStates.{SystemState, first_system}
 use Rattle.mon_monitor.specs.Events.{Event, Serve, Load, Give, Drain}
@@ -117,7 +118,7 @@ pub record EndsSo (first : Job) (x : List Exchange) (end : JobEnd) : Type 0 wher
 pub record WasRefused (accounts : List Account) (deck : JobDeck) (entries : List Entry) : Type 0 where
   -- It was refused for the first thing that is wrong with its cards.
   pub refusal : LoadError
-  pub why : deck_refusal accounts deck ≡ Some refusal
+  pub why : job_refusal accounts deck ≡ Some refusal
   -- Its one entry says so.
   pub all : entries ≡ Refused deck refusal ∷ []
 
@@ -125,7 +126,7 @@ pub record WasRefused (accounts : List Account) (deck : JobDeck) (entries : List
 -- what it has asked up to now
 pub record Course (accounts : List Account) (deck : JobDeck) : Type 0 where
   -- Nothing is wrong with its cards.
-  pub good : deck_refusal accounts deck ≡ None
+  pub good : job_refusal accounts deck ≡ None
   -- Its account is the one that its card names.
   pub account : Account
   pub known : find_account accounts deck.account ≡ Some account

@@ -15,13 +15,14 @@ use Rattle.job_end.specs.declared.job_end.JobEnd.{JobEnd}
 use Rattle.load_refusal.specs.declared.load_error.LoadError.{LoadError}
 use Rattle.job_end.specs.declared.turned.Turned.{Turned}
 use Rattle.job_end.specs.declared.turned.Turned.TheVariants as turn
-use Rattle.scheduler.specs.States.{SchedulerState, job_in}
+use Rattle.scheduler.specs.States.{SchedulerState, seat_at}
+use Rattle.scheduler.specs.Loads.{job_loaded}
 use Rattle.scheduler.specs.Marks.{Mark, Marks, mark_of, turn_as, never, rounds, turns_left, rounds_until, is_done, has_free_slot}
 use Rattle.scheduler.specs.Exchanged.{Exchanged, asked_in}
 use Rattle.mon_monitor.specs.SystemStates.{SystemState}
 use Rattle.mon_monitor.specs.Events.{Event, Serve, Load, Give, Drain}
 use Rattle.mon_monitor.specs.Printouts.{Printout, OfCommand, OfJob, OfRefused}
-use Rattle.mon_monitor.specs.Played.{loading, happened}
+use Rattle.mon_monitor.specs.Played.{happened}
 
 -- what happened, one thing at a time
 pub data Entry : Type 0 where
@@ -38,12 +39,11 @@ pub data Entry : Type 0 where
 
 -- a job that has ended with its turn
 abbrev pub end_entry : Turned → List Entry
-end_entry (turn.Ended e) = Ended e ∷ []
-end_entry _ = []
+end_entry turned = elim turned [ turn.Ended e ↦ Ended e ∷ [] | _ ↦ [] ]
 
 -- a turn of the job in a slot
 abbrev pub turn_entries : Option Mark → ℕ → SchedulerState → List Entry
-turn_entries m s w = map Asked (asked_in m (job_in s w) w.sets) ++ end_entry (turn_as m s w).0
+turn_entries m s w = map Asked (asked_in m (seat_at s w.slots) w.sets) ++ end_entry (turn_as m s w).0
 
 -- turns of the jobs in these slots, until the scheduler is one to stop at
 abbrev pub entries_until : (SchedulerState → Bool) → List ℕ → Marks → SchedulerState → List Entry
@@ -58,15 +58,14 @@ entries_of_rounds stop m w = entries_until stop (rounds (turns_left w.slots) (le
 
 -- a job that is loaded, or refused
 abbrev pub load_entry : JobDeck → Result ℕ LoadError → List Entry
-load_entry deck (Ok slot) = Entered deck ∷ []
-load_entry deck (Err refusal) = Refused deck refusal ∷ []
+load_entry deck loaded = elim loaded [ Ok slot ↦ Entered deck ∷ [] | Err refusal ↦ Refused deck refusal ∷ [] ]
 
 -- one event: a command is served; a job enters, behind the turns that make room for it; turns are taken
 abbrev pub event_entries : Event → Marks → SystemState → List Entry
 event_entries (Serve command) m w =
     Ordered (find_account w.accounts (account_of command)) w.scheduler.sets command (answered w.accounts w.scheduler.sets command).answer ∷ []
 event_entries (Load deck) m w =
-    entries_of_rounds has_free_slot m w.scheduler ++ load_entry deck (loading deck (record w { scheduler = (rounds_until has_free_slot m w.scheduler).after })).0
+    entries_of_rounds has_free_slot m w.scheduler ++ load_entry deck (job_loaded w.accounts deck (rounds_until has_free_slot m w.scheduler).after.slots).0
 event_entries (Give slot count) m w = entries_until never (replicate count slot) m w.scheduler
 event_entries Drain m w = entries_of_rounds is_done m w.scheduler
 

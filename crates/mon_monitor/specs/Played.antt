@@ -21,15 +21,11 @@ abbrev pub of_turns : SystemState → Past → Played
 of_turns w p = record { printouts = map OfJob (map (λ e. e.1) p.ends); after = record w { scheduler = p.after }; marks = p.marks }
 
 -- a job is loaded into the lowest free slot, or refused
-abbrev pub loading : JobDeck → SystemState → Result ℕ LoadError × SystemState
-loading deck w =
-    let l = job_loaded w.accounts deck w.scheduler.slots in
-    (l.0, record w { scheduler = record (w.scheduler) { slots = l.1 } })
-
 abbrev pub of_loading : JobDeck → Marks → SystemState → Played
 of_loading deck m w =
-    let l = loading deck w in
-    record { printouts = elim l.0 [ Ok slot ↦ [] | Err refusal ↦ OfRefused deck.number deck.account refusal ∷ [] ]; after = l.1; marks = m }
+    let l = job_loaded w.accounts deck w.scheduler.slots in
+    let refused : List Printout = elim l.0 [ Ok slot ↦ [] | Err refusal ↦ OfRefused deck.number deck.account refusal ∷ [] ] in
+    record { printouts = refused; after = record w { scheduler = record (w.scheduler) { slots = l.1 } }; marks = m }
 
 -- one event and then another
 abbrev pub then_played : Played → (Marks → SystemState → Played) → Played
@@ -48,3 +44,9 @@ happened Drain m w = of_turns w (rounds_until is_done m w.scheduler)
 abbrev pub played : List Event → Marks → SystemState → Played
 played [] m w = record { printouts = []; after = w; marks = m }
 played (event ∷ events) m w = then_played (happened event m w) (played events)
+
+-- FOR THE CODE AND FOR LAWS: what loading a job answers, and leaves
+abbrev pub loading : JobDeck → SystemState → Result ℕ LoadError × SystemState
+loading deck w =
+    let l = job_loaded w.accounts deck w.scheduler.slots in
+    (l.0, record w { scheduler = record (w.scheduler) { slots = l.1 } })

@@ -14,9 +14,7 @@ pub data Printout : Type 0 where
   OfRefused : ℕ → List ℕ → LoadError → Printout
 
 abbrev pub printout_text : Printout → List ℕ
-printout_text (OfCommand text) = text
-printout_text (OfJob end) = printout end
-printout_text (OfRefused n account refusal) = refusal_text n account refusal
+printout_text shown = elim shown [ OfCommand text ↦ text | OfJob end ↦ printout end | OfRefused n account refusal ↦ refusal_text n account refusal ]
 
 abbrev pub printouts_text : List Printout → List ℕ
 printouts_text printouts = flat_map printout_text printouts

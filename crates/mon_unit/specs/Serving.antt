@@ -29,21 +29,14 @@ pub record Reach : Type 0 where
   pub units : UnitState
 
 abbrev pub unit_of : Act → ℕ
-unit_of (Read u) = u
-unit_of (Write u line) = u
-unit_of (Endfile u) = u
-unit_of (Rewind u) = u
+unit_of act = elim act [ Read u ↦ u | Write u line ↦ u | Endfile u ↦ u | Rewind u ↦ u ]
 
 abbrev pub note_act : Act → NoteAct
-note_act (Read u) = act.Read
-note_act (Write u line) = act.Write
-note_act (Endfile u) = act.Endfile
-note_act (Rewind u) = act.Rewind
+note_act asked = elim asked [ Read u ↦ act.Read | Write u line ↦ act.Write | Endfile u ↦ act.Endfile | Rewind u ↦ act.Rewind ]
 
 -- a note names the data set, or the unit where that is tied to none
 abbrev pub note_target : ℕ → Target → NoteTarget
-note_target u (Set name) = of.Set name
-note_target u target = of.Unit u
+note_target u tied = elim tied [ Set name ↦ of.Set name | target ↦ of.Unit u ]
 
 abbrev pub with_note : Note → UnitState → UnitState
 with_note note units = record units { notes = units.notes ++ note ∷ [] }

@@ -8,7 +8,7 @@ pub use Rattle.interaction.specs.{Exchanges.{AnswersAll}, Interactions.{Asks, In
 pub use Rattle.interaction.specs.declared.request.Request.{Request}
 pub use Rattle.job_end.specs.{AuditLines.{ended_line}, declared.job_end.JobEnd.{JobEnd}, declared.turned.Turned.{Turned}}
 pub use Rattle.job_end.specs.declared.turned.Turned.TheVariants.{Empty, Ended, Goes}
-pub use Rattle.load_refusal.specs.{Loads.{cards_refused, missing, program_refusal}, declared.load_error.LoadError.{LoadError}}
+pub use Rattle.load_refusal.specs.{Loads.{cards_refused, job_refusal, missing, program_refusal}, declared.load_error.LoadError.{LoadError}}
 pub use Rattle.load_refusal.specs.declared.load_error.LoadError.TheVariants.{Cards, NoAccount, NoSlot, Syntax}
 pub use Rattle.mon_access.specs.{Accounts.{find_account}, declared.account.Account.{Account}}
 pub use Rattle.mon_catalogue.specs.Sets.{Sets}

@@ -1,8 +1,8 @@
 -- What is loaded, and what is refused.
 use Rattle.std.proofs.Common.{◌≡◌, ℕ, suc, ◌+◌, ◌<◌, List, [], ◌∷◌, length, Option, Some, None, Result, Ok, Err, refl, ap, sym, ◌∙◌, subst, arith, option_map, is_some, is_none, position, slice_set, IsSome}
-use Rattle.scheduler.proofs.Common.{position_from, position_from-zero, position-Some, option_or, Stop, Refused, IfRefused, SyntaxError, ProgramText, statements_of, Program, reads_programs, not_refused, Job, first_job, Account, find_account, UnitError, UnitState, JobDeck, LoadError, NoSlot, NoAccount, Cards, Syntax, Slot, SlotState, with_seat, first_free, slot_of, seat_of, seats_of, program_refusal, missing, first_units, with_ties, ties_refusal, program_in, deck_refusal, slot_in, loaded_by, job_loaded, slot_by, IsSpelled}
+use Rattle.scheduler.proofs.Common.{position_from, position_from-zero, position-Some, option_or, Stop, Refused, IfRefused, SyntaxError, ProgramText, statements_of, Program, reads_programs, not_refused, Job, first_job, Account, find_account, UnitError, UnitState, JobDeck, LoadError, NoSlot, NoAccount, Cards, Syntax, Slot, SlotState, with_seat, first_free, slot_of, seat_of, seats_of, program_refusal, missing, first_units, with_ties, ties_refusal, program_in, deck_refusal, job_refusal, slot_in, loaded_by, job_loaded, slot_by, IsSpelled}
 use Rattle.mon_text.specs.declared.stop.Stop.TheVariants.{Memory}
-use Rattle.scheduler.proofs.Seats.{map_set}
+use Rattle.scheduler.proofs.{Seats.{map_set}, Carding.{told}}
 
 spelled_in : (said : Result ProgramText SyntaxError) (p : Program) → IsSpelled said p → program_in said ≡ Some p
 spelled_in (Ok cards) p a = reads_programs cards p a
@@ -60,20 +60,20 @@ within slots i e = (position-Some (λ seat. is_none seat) slots i None e).0
 -- LOADS
 
 pub no_slot : (accounts : List Account) (deck : JobDeck) (slots : List (Option SlotState)) → first_free slots ≡ None → job_loaded accounts deck slots ≡ (Err NoSlot, slots)
-no_slot accounts deck slots e = ap (λ o. loaded_by (option_or (missing NoSlot o) (deck_refusal accounts deck)) o (slot_in accounts deck) slots) e
+no_slot accounts deck slots e = ap (λ o. loaded_by (option_or (missing NoSlot o) (job_refusal accounts deck)) o (slot_in accounts deck) slots) e
 
 pub deck_refused : (accounts : List Account) (deck : JobDeck) (slots : List (Option SlotState)) (n : ℕ) (refusal : LoadError)
     → first_free slots ≡ Some n → deck_refusal accounts deck ≡ Some refusal → job_loaded accounts deck slots ≡ (Err refusal, slots)
 deck_refused accounts deck slots n refusal e d =
-    ap (λ o. loaded_by (option_or (missing NoSlot o) (deck_refusal accounts deck)) o (slot_in accounts deck) slots) e
-    ∙ ap (λ o. loaded_by o (Some n) (slot_in accounts deck) slots) d
+    ap (λ o. loaded_by (option_or (missing NoSlot o) (job_refusal accounts deck)) o (slot_in accounts deck) slots) e
+    ∙ ap (λ o. loaded_by o (Some n) (slot_in accounts deck) slots) (sym (told accounts deck) ∙ d)
 
 pub deck_loaded : (accounts : List Account) (deck : JobDeck) (slots : List (Option SlotState)) (n : ℕ) (slot : SlotState)
     → first_free slots ≡ Some n → deck_refusal accounts deck ≡ None → slot_in accounts deck ≡ Some slot
     → job_loaded accounts deck slots ≡ (Ok n, with_seat n (Some slot) slots)
 deck_loaded accounts deck slots n slot e d s =
-    ap (λ o. loaded_by (option_or (missing NoSlot o) (deck_refusal accounts deck)) o (slot_in accounts deck) slots) e
-    ∙ ap (λ o. loaded_by o (Some n) (slot_in accounts deck) slots) d ∙ ap (λ o. loaded_by None (Some n) o slots) s
+    ap (λ o. loaded_by (option_or (missing NoSlot o) (job_refusal accounts deck)) o (slot_in accounts deck) slots) e
+    ∙ ap (λ o. loaded_by o (Some n) (slot_in accounts deck) slots) (sym (told accounts deck) ∙ d) ∙ ap (λ o. loaded_by None (Some n) o slots) s
 
 -- what `?` hands on is the stop that was there
 pub stopped_for : {X : Type 0} (r : Result X (Stop LoadError)) (s t u : Stop LoadError) → r ≡ Err s → s ≡ t → r ≡ Err u → t ≡ u

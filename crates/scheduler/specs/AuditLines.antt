@@ -2,7 +2,7 @@
 -- end, job_end.
 use Rattle.std.specs.Prelude.{ℕ, Bool, List, [], ◌∷◌, ◌++◌, length, drop, Option, if◌then◌else◌}
 use Rattle.std.specs.List.{flat_map}
-use Rattle.audit.specs.Requests.{request_line, asked_of}
+use Rattle.audit.specs.Requests.{exchange_line}
 use Rattle.job_end.specs.declared.turned.Turned.{Turned}
 use Rattle.job_end.specs.declared.turned.Turned.TheVariants.{Empty, Goes, Ended}
 use Rattle.job_end.specs.AuditLines.{ended_line}
@@ -12,7 +12,7 @@ use Rattle.scheduler.specs.Exchanged.{Exchanged, asked_in}
 
 -- a request of a job, as it was answered
 abbrev pub exchanged_line : Exchanged → List ℕ
-exchanged_line e = request_line (asked_of e.number e.account e.reach e.request) e.answer
+exchanged_line e = exchange_line e.number e.account e.reach e.request e.answer
 
 -- THE LINES OF TURNS
 

@@ -35,10 +35,6 @@ tied_by card units = with_tie card.unit (tied_to (Set card.set)) units
 abbrev pub with_ties : List UnitCard → UnitState → UnitState
 with_ties cards units = fold (λ tied card. tied_by card tied) units cards
 
-abbrev pub ties_refusal : List UnitCard → UnitState → Option UnitError
-ties_refusal [] units = None
-ties_refusal (card ∷ cards) units = option_or (tie_refusal card.unit units) (ties_refusal cards (tied_by card units))
-
 -- THE PROGRAM
 
 -- the program that cards spell, where they spell one
@@ -47,15 +43,9 @@ program_in cards = option_and_then program_on (result_ok cards)
 
 -- THE JOB
 
--- why a job is not loaded where a slot is free: its account, its unit cards, its program
-abbrev pub deck_refusal : List Account → JobDeck → Option LoadError
-deck_refusal accounts deck =
-    option_or (missing NoAccount (find_account accounts deck.account))
-    (option_or (option_map Cards (ties_refusal deck.ties (first_units deck.lines))) (program_refusal (statements_of deck.lines)))
-
--- why a job is not loaded
+-- why a job is not loaded: for want of a slot, or as its cards tell
 abbrev pub load_refusal : List Account → JobDeck → List (Option SlotState) → Option LoadError
-load_refusal accounts deck slots = option_or (missing NoSlot (first_free slots)) (deck_refusal accounts deck)
+load_refusal accounts deck slots = option_or (missing NoSlot (first_free slots)) (job_refusal accounts deck)
 
 -- what a slot holds when the job has been loaded
 abbrev pub loaded_slot : Account → JobDeck → Program → SlotState
@@ -77,6 +67,17 @@ job_loaded accounts deck slots = loaded_by (load_refusal accounts deck slots) (f
 
 -- THE LAW
 
--- why a job is not loaded where a slot is free is told by its cards alone, as by the units that they tie
+-- why unit cards are refused, by the units as the cards before tie them
+abbrev pub ties_refusal : List UnitCard → UnitState → Option UnitError
+ties_refusal [] units = None
+ties_refusal (card ∷ cards) units = option_or (tie_refusal card.unit units) (ties_refusal cards (tied_by card units))
+
+-- why a job is not loaded where a slot is free, by its units: its account, its unit cards, its program
+abbrev pub deck_refusal : List Account → JobDeck → Option LoadError
+deck_refusal accounts deck =
+    option_or (missing NoAccount (find_account accounts deck.account))
+    (option_or (option_map Cards (ties_refusal deck.ties (first_units deck.lines))) (program_refusal (statements_of deck.lines)))
+
+-- it is what the cards alone tell
 abbrev pub ToldByCards : Type 0
 ToldByCards = (accounts : List Account) (deck : JobDeck) → deck_refusal accounts deck ≡ job_refusal accounts deck

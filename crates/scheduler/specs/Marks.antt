@@ -1,20 +1,20 @@
 -- What turns do where memory may break some off, and rounds of turns (own).
-use Rattle.std.specs.Prelude.{ℕ, zero, suc, ◌-◌, ◌+◌, Bool, false, List, [], ◌∷◌, ◌++◌, length, ◌&&◌, if◌then◌else◌, Option, is_some, is_none, slice_get, drop}
+use Rattle.std.specs.Prelude.{ℕ, zero, suc, ◌+◌, Bool, false, List, [], ◌∷◌, ◌++◌, length, if◌then◌else◌, Option, is_some, is_none, slice_get, drop}
 use Rattle.std.specs.Option.{option_map_or, option_flatten}
 use Rattle.std.specs.List.{list_all, range_with_len}
 use Rattle.mon_catalogue.specs.Sets.{Sets}
 use Rattle.sno_run.specs.declared.ending.Step.{Step}
 use Rattle.sno_run.specs.declared.ending.Step.TheVariants as step
 use Rattle.sno_run.specs.declared.ending.Ending.TheVariants.{Memory}
-use Rattle.sno_store.specs.States.{may_begin}
 use Rattle.interaction.specs.Counting.{Passed, requests_in, statements_in}
-use Rattle.sno_run.specs.Jobs.{Job, counted_turn, turn_of, statements_begun, statement_at}
+pub use Rattle.sno_run.specs.Jobs.{counted, may_break}
+use Rattle.sno_run.specs.Jobs.{Job, counted_turn, turn_of, statements_left}
 use Rattle.mon_unit.specs.Runs.{run_cut, passed}
 use Rattle.mon_unit.specs.Serving.{Reach, serve}
 use Rattle.job_end.specs.declared.job_end.JobEnd.{JobEnd}
 use Rattle.job_end.specs.declared.turned.Turned.{Turned}
 use Rattle.job_end.specs.declared.turned.Turned.TheVariants.{Empty}
-use Rattle.scheduler.specs.States.{SlotState, SchedulerState, job_in, first_free}
+use Rattle.scheduler.specs.States.{SlotState, SchedulerState, seat_at, first_free}
 use Rattle.scheduler.specs.Turns.{reached, ran, turned, ends_by}
 
 -- where memory breaks a turn off: behind its first moment, in which its own statement begins, and so many more
@@ -36,14 +36,6 @@ passed_at m slot sets = passed (serve slot.account) (suc m.moments) (counted_tur
 abbrev pub exchanges_at : Mark → SlotState → Sets → ℕ
 exchanges_at m slot sets = length (requests_in (passed_at m slot sets))
 
--- a job of which so many more statements have begun
-abbrev pub counted : ℕ → Job → Job
-counted n job = record job { state = record (job.state) { keywords = record (job.state.keywords) { begun = statements_begun job + n } } }
-
--- a turn takes memory only where it begins a statement
-abbrev pub may_break : Job → Bool
-may_break job = is_none job.ended && (is_some (statement_at job.point job.program.lines) && may_begin job.limits.statements job.state)
-
 abbrev pub broken_at : Mark → SlotState → Sets → (Step × Job) × Reach
 broken_at m slot sets =
     ((step.Ended Memory, counted (statements_in (passed_at m slot sets)) slot.job), run_cut (serve slot.account) (exchanges_at m slot sets) (turn_of slot.job) (reached sets slot))
@@ -54,7 +46,7 @@ ran_as m slot sets = option_map_or (λ mark. if may_break slot.job then broken_a
 
 -- one turn of the job in a slot, if there is one
 abbrev pub turn_as : Option Mark → ℕ → SchedulerState → Turned × SchedulerState
-turn_as m s w = option_map_or (λ slot. turned s (ran_as m slot w.sets) slot w) (job_in s w) (Empty, w)
+turn_as m s w = option_map_or (λ slot. turned s (ran_as m slot w.sets) slot w) (seat_at s w.slots) (Empty, w)
 
 -- the jobs that ended, in order, each with its slot; what is left; and the marks that no turn took
 pub record Past : Type 0 where
@@ -87,7 +79,7 @@ rounds (suc k) n = range_with_len 1 n ++ rounds k n
 -- how many turns the jobs can have, as each turn begins a statement or is a job's last
 abbrev pub turns_left : List (Option SlotState) → ℕ
 turns_left [] = 0
-turns_left (seat ∷ seats) = option_map_or (λ slot. suc (slot.job.limits.statements - statements_begun slot.job)) seat 0 + turns_left seats
+turns_left (seat ∷ seats) = option_map_or (λ slot. suc (statements_left slot.job)) seat 0 + turns_left seats
 
 -- round and round, until a scheduler is one to stop at: no more rounds than there are turns that the jobs can have
 abbrev pub rounds_until : (SchedulerState → Bool) → Marks → SchedulerState → Past

@@ -24,12 +24,10 @@ scheduler sets slots = record { sets = sets; slots = slots }
 
 -- the seat of this number; one that there isn't is empty
 abbrev pub seat_at : ℕ → List (Option SlotState) → Option SlotState
-seat_at zero slots = None
-seat_at (suc i) slots = option_flatten (slice_get slots i)
+seat_at s slots = elim s [ zero ↦ None | suc i ↦ option_flatten (slice_get slots i) ]
 
 abbrev pub with_seat : ℕ → Option SlotState → List (Option SlotState) → List (Option SlotState)
-with_seat zero seat slots = slots
-with_seat (suc i) seat slots = slice_set slots i seat
+with_seat s seat slots = elim s [ zero ↦ slots | suc i ↦ slice_set slots i seat ]
 
 -- the job in a slot
 abbrev pub job_in : ℕ → SchedulerState → Option SlotState

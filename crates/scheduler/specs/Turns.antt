@@ -35,12 +35,10 @@ job_end slot ending = record {
 
 -- a job that has ended leaves its slot
 abbrev pub seat : Step → SlotState → Option SlotState
-seat step.Goes slot = Some slot
-seat (step.Ended ending) slot = None
+seat ended slot = elim ended [ step.Goes ↦ Some slot | step.Ended ending ↦ None ]
 
 abbrev pub told : Step → SlotState → Turned
-told step.Goes slot = Goes
-told (step.Ended ending) slot = Ended (job_end slot ending)
+told ended slot = elim ended [ step.Goes ↦ Goes | step.Ended ending ↦ Ended (job_end slot ending) ]
 
 abbrev pub turned : ℕ → (Step × Job) × Reach → SlotState → SchedulerState → Turned × SchedulerState
 turned s r slot w = (told r.0.0 (after_turn slot r), record { sets = r.1.sets; slots = with_seat s (seat r.0.0 (after_turn slot r)) w.slots })
@@ -59,8 +57,7 @@ pub record Course : Type 0 where
   pub after : SchedulerState
 
 abbrev pub ends_by : ℕ → Turned → List (ℕ × JobEnd)
-ends_by s (Ended e) = (s, e) ∷ []
-ends_by s _ = []
+ends_by s turned = elim turned [ Ended e ↦ (s, e) ∷ [] | _ ↦ [] ]
 
 -- turns of the jobs in these slots, in this order
 abbrev pub turns : List ℕ → SchedulerState → Course

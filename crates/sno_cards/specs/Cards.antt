@@ -30,12 +30,10 @@ kind_of (mark ∷ rest) =
     else Start
 
 abbrev pub is_start : CardKind → Bool
-is_start Start = true
-is_start _ = false
+is_start kind = elim kind [ Start ↦ true | _ ↦ false ]
 
 abbrev pub is_continuation : CardKind → Bool
-is_continuation Continuation = true
-is_continuation _ = false
+is_continuation kind = elim kind [ Continuation ↦ true | _ ↦ false ]
 
 -- END is followed by a blank, by `;` or by nothing
 abbrev pub ends_label : List ℕ → Bool
@@ -44,10 +42,8 @@ ends_label (c ∷ cs) = is_blank c || is_semicolon c
 
 -- the line that ends a program: END in columns 1 to 3
 abbrev pub is_end_line : List ℕ → Bool
-is_end_line (e ∷ n ∷ d ∷ rest) = e == 69 && n == 78 && d == 68 && ends_label rest
-is_end_line _ = false
+is_end_line text = elim text [ e ∷ n ∷ d ∷ rest ↦ e == 69 && n == 78 && d == 68 && ends_label rest | _ ↦ false ]
 
 -- what stands on the END line after END, before the first `;`
 abbrev pub rest_of_end_line : List ℕ → List ℕ
-rest_of_end_line (e ∷ n ∷ d ∷ rest) = before_first is_semicolon rest
-rest_of_end_line _ = []
+rest_of_end_line text = elim text [ e ∷ n ∷ d ∷ rest ↦ before_first is_semicolon rest | _ ↦ [] ]

@@ -1,5 +1,5 @@
 -- The texts of the codes (own).
-use Rattle.std.specs.Prelude.{ℕ, List, codes}
+use Rattle.std.specs.Prelude.{ℕ, List, codes, take}
 use Rattle.sno_cards.specs.declared.refusal.SyntaxCode.{SyntaxCode}
 use Rattle.sno_cards.specs.declared.refusal.SyntaxCode.TheVariants.{NoEndLine, NothingToContinue, UnknownControlCard, BadConstant, BlankMissing, Unexpected, LabelTaken, VariableNeeded, StatementTooLarge, BadEnd}
 
@@ -15,14 +15,6 @@ code_text VariableNeeded = codes "P5 VARIABLE NEEDED"
 code_text StatementTooLarge = codes "P6 STATEMENT TOO LARGE"
 code_text BadEnd = codes "P7 BAD END"
 
+-- the letter and the number that a code begins with
 abbrev pub code_symbol : SyntaxCode → List ℕ
-code_symbol NoEndLine = codes "S1"
-code_symbol NothingToContinue = codes "S2"
-code_symbol UnknownControlCard = codes "S3"
-code_symbol BadConstant = codes "P1"
-code_symbol BlankMissing = codes "P2"
-code_symbol Unexpected = codes "P3"
-code_symbol LabelTaken = codes "P4"
-code_symbol VariableNeeded = codes "P5"
-code_symbol StatementTooLarge = codes "P6"
-code_symbol BadEnd = codes "P7"
+code_symbol code = take 2 (code_text code)

@@ -33,8 +33,7 @@ placed_on card column (c ∷ cs) = record { code = c; place = record { card = ca
 
 -- the mark of a continuation is read as a blank
 abbrev pub without_mark : List ℕ → List ℕ
-without_mark [] = []
-without_mark (mark ∷ cs) = 32 ∷ cs
+without_mark line = elim line [ [] ↦ [] | mark ∷ cs ↦ 32 ∷ cs ]
 
 abbrev pub is_continuation_card : Card → Bool
 is_continuation_card card = is_continuation (kind_of card.text)
@@ -63,8 +62,7 @@ literal_after (Some quote) c = if c == quote then None else Some quote
 
 -- a `;` outside literals ends a statement
 abbrev pub ends_statement : Option ℕ → ℕ → Bool
-ends_statement None c = is_semicolon c
-ends_statement (Some quote) c = false
+ends_statement within c = elim within [ None ↦ is_semicolon c | Some quote ↦ false ]
 
 -- a line, or the rest of one within which a literal may be open, cut at each `;` outside literals
 abbrev pub pieces : Option ℕ → List Placed → List (List Placed)

@@ -12,8 +12,7 @@ use Rattle.std.specs.Option.{ok_or, option_and_then}
 
 -- goes on with what there is, if there is no fault before
 abbrev pub go_on : {A B : Type 0} → Result A Fault → (A → Result B Fault) → Result B Fault
-go_on (Ok a) go = go a
-go_on (Err f) go = Err f
+go_on read go = elim read [ Ok a ↦ go a | Err f ↦ Err f ]
 
 -- the variable that a value names: any text but the null string
 abbrev pub name_in : Value → Result (List ℕ) Fault

@@ -7,8 +7,7 @@ use Rattle.sno_expression.specs.Expressions.{Expression, Arguments, Identifier, 
 
 -- behind the arguments so far stands a comma, and none where there are none
 abbrev pub comma_behind : Arguments → List Bool
-comma_behind NoArguments = []
-comma_behind _ = false ∷ []
+comma_behind args = elim args [ NoArguments ↦ [] | _ ↦ false ∷ [] ]
 
 -- for each token of a tree, does an element begin there that should be a variable and is none; needed: should the tree be
 -- one; between two operands stands a mark, and none where they are concatenated

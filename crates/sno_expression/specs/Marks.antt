@@ -42,12 +42,8 @@ prefix_of k = option_map OfOperand (unary_of k)
 
 -- does the operator need a variable on its right
 abbrev pub needs_variable : BinaryOperator → Bool
-needs_variable operator.Conditional = true
-needs_variable operator.Immediate = true
-needs_variable _ = false
+needs_variable o = elim o [ operator.Conditional ↦ true | operator.Immediate ↦ true | _ ↦ false ]
 
 -- has the operand of the unary operator to be a variable
 abbrev pub operand_is_variable : UnaryOperator → Bool
-operand_is_variable unary.Name = true
-operand_is_variable unary.Cursor = true
-operand_is_variable _ = false
+operand_is_variable o = elim o [ unary.Name ↦ true | unary.Cursor ↦ true | _ ↦ false ]

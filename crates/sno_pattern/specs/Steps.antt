@@ -65,15 +65,11 @@ provided holds n go = if holds then go else ends Failure n
 
 -- the pattern that a variable stands for
 abbrev pub pattern_found : Looked → Pattern
-pattern_found (looked.Pattern p) = p
-pattern_found (looked.Text s) = pattern.Text s
-pattern_found (looked.Defer v) = pattern.Defer v
+pattern_found seen = elim seen [ looked.Pattern p ↦ p | looked.Text s ↦ pattern.Text s | looked.Defer v ↦ pattern.Defer v ]
 
 -- how it goes on with what the host told, once an assignment was made
 abbrev pub if_given : Told → ℕ → Trying → Trying
-if_given Given n go = go
-if_given (Faulty f) n go = ends (Fault f) n
-if_given told n go = ends Failure n
+if_given answer n go = elim answer [ Given ↦ go | Faulty f ↦ ends (Fault f) n | told ↦ ends Failure n ]
 
 module _ (text : List ℕ) where
   -- THE TABLE: a goal at the cursor c, with the rest r of the goals

@@ -20,8 +20,7 @@ request act s = record { statement = s.keywords.statement; act = act }
 
 -- goes on where it is done, and fails where it is not
 abbrev pub if_done : Answer → State → Asking (Evaluated × State) → Asking (Evaluated × State)
-if_done answer.Done s go = go
-if_done _ s go = Returns (Fails, s)
+if_done told s go = elim told [ answer.Done ↦ go | _ ↦ Returns (Fails, s) ]
 
 -- an act that gives null where it is done
 abbrev pub asked : Act → State → Asking (Evaluated × State)

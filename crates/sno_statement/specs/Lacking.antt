@@ -15,9 +15,7 @@ use Rattle.std.specs.Option.{option_map_or}
 
 -- for each token of a part of a statement; before an object stands its `=`
 abbrev pub lacking_object : Object → List Bool
-lacking_object NoObject = []
-lacking_object NullObject = false ∷ []
-lacking_object (ValueObject t) = false ∷ lacking false t
+lacking_object object = elim object [ NoObject ↦ [] | NullObject ↦ false ∷ [] | ValueObject t ↦ false ∷ lacking false t ]
 
 -- where an object is given the subject has to be one that may be assigned to
 abbrev pub lacking_body : Body → List Bool

@@ -1,13 +1,13 @@
 //! A statement read part by part, each part as far as it goes: in one pass its trees, the leftmost place that lacks a
 //! variable, and where the tokens go no further, why.
 
-ghost use Rattle.std.specs.Prelude.{◌≡◌, Option, Some, None, IfOk, Ok, true, false, length};
+ghost use Rattle.std.specs.Prelude.{◌≡◌, Option, Some, None, IfOk, true, false, length};
 ghost use Rattle.sno_expression.specs.Abstraction.{expression_of, expressions_of};
 ghost use Rattle.sno_expression.specs.Expressions as tree;
 ghost use Rattle.sno_expression.specs.inner.Telling.{Tells, with_lack, telling};
 ghost use Rattle.sno_statement.specs.Statements as the;
 ghost use Rattle.sno_statement.specs.inner.Parsing.{blamed, closing, computed, element, inside, target_in, at_last, is_other, next, goto_in};
-ghost use Rattle.sno_statement.specs.inner.Parsing.{States, is_colon, is_equals, ending, set, giving, object_in, parted, matching, subject_then, acting, begun};
+ghost use Rattle.sno_statement.specs.inner.Parsing.{is_colon, is_equals, ending, set, giving, object_in, parted, matching, subject_then, acting, begun};
 ghost use Rattle.sno_statement.specs.Abstraction.{target_of, goto_of, object_of, body_of, statement_of};
 ghost use Rattle.sno_statement.specs.inner.Told.{aims_of, led_of, reached};
 

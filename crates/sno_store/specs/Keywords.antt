@@ -1,5 +1,6 @@
 -- Keywords (the SNOBOL4 book, chapter 6; limits, first values, ranges and faults are own).
-use Rattle.std.specs.Prelude.{ℕ, ℤ, pos, nat_le, Bool, true, false, List, codes, bytes_eq, Option, Some, None, Result, Ok, Err, if◌then◌else◌}
+use Rattle.std.specs.Prelude.{ℕ, ℤ, pos, nat_le, Bool, true, false, List, codes, bytes_eq, Option, Result, Ok, Err, if◌then◌else◌, [], ◌∷◌}
+use Rattle.std.specs.Map.{lookup}
 use Rattle.sno_text.specs.declared.fault.Fault.{Fault}
 use Rattle.sno_text.specs.declared.fault.Fault.TheVariants as fault
 use Rattle.sno_store.specs.declared.keyword.Keyword.{Keyword}
@@ -10,17 +11,14 @@ use Rattle.sno_store.specs.declared.keyword.Keyword.TheVariants.{Anchor, FullSca
 abbrev pub first_keywords : ℕ → Keywords
 first_keywords limit = record { anchor = pos 0; full_scan = pos 0; trim = pos 0; statement_limit = limit; maximum_length = 5000; begun = 0; statement = 0 }
 
+-- the keywords, by their names
+abbrev pub keywords : List (List ℕ × Keyword)
+keywords =
+    (codes "ANCHOR", Anchor) ∷ (codes "FULLSCAN", FullScan) ∷ (codes "TRIM", Trim) ∷ (codes "STLIMIT", StatementLimit) ∷ (codes "MAXLNGTH", MaximumLength)
+    ∷ (codes "STCOUNT", StatementCount) ∷ (codes "STNO", StatementNumber) ∷ (codes "FNCLEVEL", FunctionLevel) ∷ []
+
 abbrev pub keyword_named : List ℕ → Option Keyword
-keyword_named name =
-    if bytes_eq name (codes "ANCHOR") then Some Anchor
-    else if bytes_eq name (codes "FULLSCAN") then Some FullScan
-    else if bytes_eq name (codes "TRIM") then Some Trim
-    else if bytes_eq name (codes "STLIMIT") then Some StatementLimit
-    else if bytes_eq name (codes "MAXLNGTH") then Some MaximumLength
-    else if bytes_eq name (codes "STCOUNT") then Some StatementCount
-    else if bytes_eq name (codes "STNO") then Some StatementNumber
-    else if bytes_eq name (codes "FNCLEVEL") then Some FunctionLevel
-    else None
+keyword_named name = lookup (bytes_eq name) keywords
 
 -- the value of a keyword, so many calls deep
 abbrev pub keyword_value : Keyword → ℕ → Keywords → ℤ
@@ -35,10 +33,7 @@ keyword_value FunctionLevel level k = pos level
 
 -- whether a program may set it
 abbrev pub is_settable : Keyword → Bool
-is_settable StatementCount = false
-is_settable StatementNumber = false
-is_settable FunctionLevel = false
-is_settable _ = true
+is_settable keyword = elim keyword [ StatementCount ↦ false | StatementNumber ↦ false | FunctionLevel ↦ false | _ ↦ true ]
 
 -- a limit is not negative, and that of characters is at most 100,000
 abbrev pub with_keyword : Keyword → ℤ → Keywords → Result Keywords Fault

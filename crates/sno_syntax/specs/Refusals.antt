@@ -88,8 +88,7 @@ IsRefusalOf labels text e = MatchOption (label_fault labels (label_of text)) (Is
 -- ALL STATEMENTS
 
 abbrev pub with_label : LabelList → List ℕ → ℕ → LabelList
-with_label labels [] index = labels
-with_label labels (c ∷ cs) index = insert_entry bytes_eq labels (c ∷ cs) index
+with_label labels label index = elim label [ [] ↦ labels | c ∷ cs ↦ insert_entry bytes_eq labels (c ∷ cs) index ]
 
 -- of the statements from an index on
 abbrev pub statements_refusal : LabelList → ℕ → List (List Placed) → Option SyntaxError

@@ -10,10 +10,7 @@ use Rattle.sno_value.specs.declared.key.Place.{Place}
 
 -- the key that a value is: a string, an integer or a table
 abbrev pub key_of : Value → Option Key
-key_of (Text t) = Some (key.Text t)
-key_of (Integer i) = Some (key.Integer i)
-key_of (Table n) = Some (key.Table n)
-key_of _ = None
+key_of value = elim value [ Text t ↦ Some (key.Text t) | Integer i ↦ Some (key.Integer i) | Table n ↦ Some (key.Table n) | _ ↦ None ]
 
 -- the value of a key
 abbrev pub value_of : Key → Value
@@ -33,5 +30,4 @@ same_place p q = nat_eq p.table q.table && same_key p.key q.key
 
 -- the place that a table and a key are, if they are such
 abbrev pub place_of : Value → Value → Option Place
-place_of (Table n) v = option_map (λ k. record { table = n; key = k }) (key_of v)
-place_of _ v = None
+place_of it v = elim it [ Table n ↦ option_map (λ k. record { table = n; key = k }) (key_of v) | _ ↦ None ]

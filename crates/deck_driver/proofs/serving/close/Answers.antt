@@ -1,7 +1,8 @@
-use Rattle.std.proofs.Common.{ℕ}
+use Rattle.std.proofs.Common.{ℕ, subst}
 use Rattle.mon_monitor.specs.Abstraction.{system_of}
 use Rattle.deck_driver.specs.inner.Lines.{StopBreaks}
 use Rattle.deck_driver.proofs.Commanding.{checked_when, stop_tells_none, stopped_when, closed, close_breaks, stop_breaks_when, on_err}
+use Rattle.deck_driver.{specs.Printouts.{ReadsBack}, proofs.Back.{reads_again}}
 use Rattle.deck_driver.proofs.serving.close.Goals as goal
 
 pub returns-then-check-clause-stops : goal.returns-then-check-clause-stops
@@ -26,3 +27,6 @@ returns-in_err-sets-clause-broken g c =
     let w = system_of c.args.monitor in
     let broke : (jobs : ℕ) → StopBreaks c.args.check jobs w a b = λ jobs. stop_breaks_when c.args.check c.if-check.false jobs w a b (close_breaks jobs w a b c.in_err-sets.ensures.broken) in
     on_err _ broke
+
+pub returns-clause-reads_back : goal.returns-clause-reads_back
+returns-clause-reads_back g c = λ no. subst ReadsBack c.deref.ensures (reads_again _ c.reads_back.ensures.bytes_read_back c.reads_back.ensures.printable)
