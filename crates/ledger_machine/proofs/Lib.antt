@@ -5,3 +5,4 @@ pub mod Plain
 pub mod Happening
 pub mod Going
 pub mod Playing
+pub mod Small

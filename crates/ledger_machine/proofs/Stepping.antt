@@ -56,6 +56,8 @@ module _ (runs_lead : RunsLead) where
   steps_are_texts behind file site accounts text at text_is = record {
     is = step_is behind file site accounts text at.is at.gives text_is;
     stands = λ written. stands behind site accounts text at written;
+    ran = λ left. stands behind site accounts text at
+        ((left.leaves site at.is).written accounts text (ap good_of at.gives) text_is);
   }
 
   -- these files were run

@@ -1,4 +1,4 @@
--- A stretch of submissions as one deck (own): the keeper's table, the data sets as they were, the texts with a fence behind each, `$STOP`.
+-- A stretch of submissions as one deck (own): the operator's table, the data sets as they were, the texts with a fence behind each, `$STOP`.
 use Rattle.std.specs.Prelude.{◌≡◌, ℕ, List, [], ◌∷◌, Some, Ok}
 use Rattle.std.specs.Str.Lines.{lines}
 use Rattle.mon_access.specs.declared.account.Account.{Account}

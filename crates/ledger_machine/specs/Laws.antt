@@ -12,12 +12,15 @@ use Rattle.ledger_run.specs.Meaning.{Event, State, machine_of, start}
 use Rattle.ledger_sets.specs.Applying.{Site}
 use Rattle.ledger_stretches.specs.Stretches.{Course, run_all, IsStretch, outs_of, texts_in}
 use Rattle.ledger_machine.specs.Steps.{text_in, step_over, site_after, slots, site_step}
+use Rattle.ledger_machine.specs.Written.{LeavesWrittenBehind}
 use Rattle.ledger_machine.specs.Decks.{deck_text, output_behind, StandsAt, AreFiles, site_behind, IsWritten, AreWritten}
 
--- ONE TEXT: it is run as a text of a round, over the site; and behind what it changed stands the site that it left.
+-- ONE TEXT: it is run as a text of a round, over the site; and behind what it changed stands the site that it left, if that can be written:
+-- a call that ran it saw to that.
 pub record StepsSo (behind : List (List ℕ)) (file : List ℕ) (site : Site) (accounts : List Account) (text : Handed) : Type 0 where
   pub is : site_step file behind ≡ step_over site accounts text
   pub stands : IsWritten site accounts text → StandsAt (behind ++ (step_over site accounts text).1 ∷ []) (site_after site accounts text) accounts
+  pub ran : LeavesWrittenBehind file behind → StandsAt (behind ++ (step_over site accounts text).1 ∷ []) (site_after site accounts text) accounts
 
 abbrev pub StepsAreTexts : Type 0
 StepsAreTexts = (behind : List (List ℕ)) (file : List ℕ) (site : Site) (accounts : List Account) (text : Handed) → StandsAt behind site accounts
@@ -46,7 +49,7 @@ StepsAreADeck = (files : List (ℕ × List ℕ)) (behind : List (List ℕ)) (sit
     → StandsAt behind site accounts → AreFiles files texts → AreWritten site accounts texts
     → AreOneDeck site accounts texts (course files behind).printed (course files behind).state
 
--- A SITE'S LIFE: in an honest ledger each stretch of records between two acts of the keeper is one deck, of the texts that ran there: over
+-- A SITE'S LIFE: in an honest ledger each stretch of records between two acts of the operator is one deck, of the texts that ran there: over
 -- the site behind all records before it.
 abbrev pub kept_behind : List Event → State
 kept_behind events = folded (machine_of site_step) events start

@@ -1,5 +1,5 @@
 -- What one submission does to a site (own): its text is run alone, with four slots and as long as memory lasts, over the data sets that
--- the changes so far came to, for the accounts of the keeper's table. Its jobs are numbered behind those that ran before.
+-- the changes so far came to, for the accounts of the operator's table. Its jobs are numbered behind those that ran before.
 use Rattle.std.specs.Prelude.{ℕ, ◌+◌, List, [], ◌∷◌, Option, Some, None, Result, Ok, Err}
 use Rattle.std.specs.Option.{option_map_or}
 use Rattle.std.specs.Str.Lines.{lines}

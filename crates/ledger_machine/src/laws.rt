@@ -23,7 +23,7 @@ pub fn steps_are_a_deck()
     runs_lead();
 }
 
-/// So in an honest ledger each stretch of records between two acts of the keeper is one deck of the texts that ran in it.
+/// So in an honest ledger each stretch of records between two acts of the operator is one deck of the submissions that ran in it.
 pub fn each_stretch_is_a_deck()
     ensures { EachStretchIsADeck }
 {

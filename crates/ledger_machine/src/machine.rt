@@ -1,5 +1,5 @@
 //! What runs a site's texts: each over a copy of the data sets as they stand, so that one that is broken off has changed nothing.
-ghost use Rattle.std.specs.Prelude.{◌≡◌, List, ◌+◌, ◌++◌, [], Some, IfOk, OnOk};
+ghost use Rattle.std.specs.Prelude.{◌≡◌, ◌≤◌, List, ◌+◌, ◌++◌, [], length, Some, IfOk, OnOk};
 ghost use Rattle.std.specs.Str.Lines.{lines};
 ghost use Rattle.mon_monitor.specs.Abstraction.{system_of};
 ghost use Rattle.deck_syntax.specs.Sections.{Closed};
@@ -13,8 +13,13 @@ ghost use Rattle.mon_monitor.specs.Audit.{audit_of};
 ghost use Rattle.deck_run.specs.Laws.{jobs_in};
 ghost use Rattle.ledger_machine.specs.Running.{asked_events, asked_ahead};
 ghost use Rattle.ledger_machine.specs.Steps.{good_of, step_asked, step_at};
+ghost use Rattle.ledger_machine.specs.Written.{IsWrittenAsked, LeavesWritten};
+ghost use Rattle.ledger_sets.specs.Changes.{run_changes, change_text};
+ghost use Rattle.ledger_sets.specs.Laws.{AreSmall};
+ghost use Rattle.mon_catalogue.specs.Stored.{IsStored, ArePrintable};
 
 use crate::running::{Running, play};
+use crate::watching::{Unwatched, Watch};
 use deck_syntax::first_line;
 use ledger_run::{LedgerError, Outcome};
 use ledger_sets::{State, run_change};
@@ -28,28 +33,61 @@ use site_plan::read_table;
 use sno_text::Seed;
 use std::alloc::{AllocError, Global};
 
-/// Runs a text over a state, which stays: what it prints, and what it changes.
+// Numbers and lengths that a commit can say are below this one.
+const LIMIT: u64 = 1 << 63;
+
+/// Runs a text over a state, which stays: what it prints, and what it changes. What it leaves and changes can be written.
 ///
 /// # Errors
 ///
-/// Where memory was short; or the state's table gives no accounts, or the text is none that its account may hand in (`Refused`).
+/// Where memory was short; or the state's table gives no accounts, or the text is none that its account may hand in, or so many jobs ran,
+/// or it changes so much, that no commit can say it (`Refused`).
 pub fn run_text(
     alloc: Global,
     seed: Seed,
     state: &State,
     file: &[u8],
 ) -> Result<Outcome, LedgerError>
-    ensures { IfOk result (λ outcome. step_at file.now (site_of state.now) ≡ (outcome.printout.items, outcome.change.items)) }
+    ensures told { IfOk result (λ outcome. step_at file.now (site_of state.now) ≡ (outcome.printout.items, outcome.change.items)) }
+    ensures written { OnOk result (LeavesWritten file.now (site_of state.now)) }
+{
+    let mut free = Unwatched;
+    run_watched(alloc, seed, state, file, &mut free)
+}
+
+/// Runs a text so, as long as it may go on. One that is broken off has no effect: it ran over a copy.
+///
+/// # Errors
+///
+/// As `run_text`, and where the watch says that it may not go on (`Late`, `Long`).
+pub fn run_watched<W: Watch>(
+    alloc: Global,
+    seed: Seed,
+    state: &State,
+    file: &[u8],
+    watch: &mut W,
+) -> Result<Outcome, LedgerError>
+    ensures told { IfOk result (λ outcome. step_at file.now (site_of state.now) ≡ (outcome.printout.items, outcome.change.items)) }
+    ensures written { OnOk result (LeavesWritten file.now (site_of state.now)) }
+    ensures within { IfOk result (λ outcome. length outcome.printout.items ≤ W.most watch.old) }
 {
     if file.is_empty() {
         return Err(LedgerError::Refused);
     }
+    watch.begin();
     let (line, text) = first_line(file);
     let own = read_own(line)?;
     let kept = examined(alloc, &own, text)?;
     drop(kept);
     let accounts = read_accounts(alloc, &state.tables.accounts)?;
-    run_over(alloc, seed, accounts, state, text)
+    run_over(Means { alloc, seed }, accounts, state, text, watch)
+}
+
+// Of what a run takes its memory, and by what hash it finds what jobs name.
+#[derive(Clone, Copy)]
+struct Means {
+    alloc: Global,
+    seed: Seed,
 }
 
 // Whose text it is.
@@ -95,18 +133,21 @@ fn copy_of(catalogue: &Catalogue) -> Result<Catalogue, LedgerError>
 }
 
 // Runs a text that was examined.
-fn run_over(
-    alloc: Global,
-    seed: Seed,
+fn run_over<W: Watch>(
+    means: Means,
     accounts: Accounts,
     state: &State,
     text: &[u8],
+    watch: &mut W,
 ) -> Result<Outcome, LedgerError>
-    ensures { IfOk result (λ outcome. step_asked (site_of state.now) accounts (asked_ahead Closed (lines text.now))
+    ensures told { IfOk result (λ outcome. step_asked (site_of state.now) accounts (asked_ahead Closed (lines text.now))
         ≡ (outcome.printout.items, outcome.change.items)) }
+    ensures written { OnOk result (IsWrittenAsked (site_of state.now) accounts (asked_ahead Closed (lines text.now))) }
+    ensures within { IfOk result (λ outcome. length outcome.printout.items ≤ W.most watch.old) }
 {
+    let alloc = means.alloc;
     let sets = copy_of(&state.catalogue)?;
-    let monitor = Monitor::new(alloc, seed, accounts, sets, 4)?;
+    let monitor = Monitor::new(alloc, means.seed, accounts, sets, 4)?;
     let out = Vec::new(alloc);
     let mut told = Vec::new(alloc);
     let mut running = Running {
@@ -114,22 +155,48 @@ fn run_over(
         jobs: state.jobs,
         out,
     };
-    play_to(&mut running, alloc, text, &mut told)?;
+    play_to(&mut running, alloc, text, &mut told, watch)?;
     let Running { monitor, jobs, out } = running;
-    let change = run_change(alloc, jobs, &told, &state.catalogue, monitor.catalogue())?;
+    let change = change_of(alloc, jobs, &told, &state.catalogue, monitor.catalogue())?;
     Ok(Outcome {
         printout: out,
         change,
     })
 }
 
+// What a run changed of one catalogue, which became another, and told. It can be written, as the catalogue can.
+fn change_of(
+    alloc: Global,
+    jobs: u64,
+    told: &[u8],
+    before: &Catalogue,
+    after: &Catalogue,
+) -> Result<Vec<u8>, LedgerError>
+    ensures is { IfOk result (λ change. change.items ≡ change_text (run_changes jobs told.now before.now after.now)) }
+    ensures small { OnOk result (AreSmall (run_changes jobs told.now before.now after.now)) }
+    ensures stored { OnOk result (IsStored after.now) }
+    ensures printable { OnOk result (ArePrintable after.now) }
+{
+    let change = run_change(alloc, jobs, told, before, after)?;
+    if jobs >= LIMIT {
+        return Err(LedgerError::Refused);
+    }
+    if change.len() as u64 >= LIMIT {
+        return Err(LedgerError::Refused);
+    }
+    before.reads_back();
+    after.reads_back();
+    Ok(change)
+}
+
 // Plays a text, with its audit appended to a text.
-fn play_to(
+fn play_to<W: Watch>(
     running: &mut Running,
     alloc: Global,
     text: &[u8],
     told: &mut Vec<u8>,
-) -> Result<(), AllocError>
+    watch: &mut W,
+) -> Result<(), LedgerError>
     ensures printed { OnOk result (running.new.out.items ≡ running.old.out.items
         ++ printouts_text (played (asked_events running.old.jobs (asked_ahead Closed (lines text.now))) [] (system_of running.old.monitor)).printouts) }
     ensures left { OnOk result ((played (asked_events running.old.jobs (asked_ahead Closed (lines text.now))) [] (system_of running.old.monitor)).after
@@ -137,8 +204,10 @@ fn play_to(
     ensures told { OnOk result (told.new.items ≡ told.old.items
         ++ audit_of (asked_events running.old.jobs (asked_ahead Closed (lines text.now))) [] (system_of running.old.monitor)) }
     ensures counted { OnOk result (running.old.jobs + jobs_in (asked_ahead Closed (lines text.now)) ≡ running.new.jobs) }
+    ensures within { OnOk result (length running.new.out.items ≤ W.most watch.old) }
 {
     let mut sink = TextSink::new(told);
-    play(running, alloc, text, &mut sink)?;
-    sink.settle()
+    play(running, alloc, text, &mut sink, watch)?;
+    sink.settle()?;
+    Ok(())
 }

@@ -1,5 +1,5 @@
 //! A text is run: line by line, each event as it comes.
-ghost use Rattle.std.specs.Prelude.{◌≡◌, suc, ◌+◌, ◌++◌, [], IfOk, OnOk};
+ghost use Rattle.std.specs.Prelude.{◌≡◌, ◌≤◌, suc, ◌+◌, ◌++◌, [], length, IfOk, OnOk};
 ghost use Rattle.std.specs.Str.Lines.{lines};
 ghost use Rattle.mon_device.specs.Putting.{Puts};
 ghost use Rattle.mon_monitor.specs.Abstraction.{system_of};
@@ -14,8 +14,10 @@ ghost use Rattle.deck_run.specs.Laws.{jobs_in};
 ghost use Rattle.ledger_machine.specs.Running.{HappensTo, asked_events, Brings, asked_ahead};
 
 use crate::events::{drain, enter, give, serve};
+use crate::watching::Watch;
 use deck_reader::{Event, StreamReader};
 use deck_syntax::{OpenJob, first_line};
+use ledger_run::LedgerError;
 use mon_device::Sink;
 use mon_monitor::Monitor;
 use std::alloc::{AllocError, Global};
@@ -28,13 +30,14 @@ pub(crate) struct Running {
     pub(crate) out: Vec<u8>,
 }
 
-// Runs a text that was examined, until all of its jobs have come to their ends.
-pub(crate) fn play<S: Sink>(
+// Runs a text that was examined, until all of its jobs have come to their ends, or it may not go on.
+pub(crate) fn play<S: Sink, W: Watch>(
     running: &mut Running,
     alloc: Global,
     text: &[u8],
     audit: &mut S,
-) -> Result<(), AllocError>
+    watch: &mut W,
+) -> Result<(), LedgerError>
     ensures printed { OnOk result (running.new.out.items ≡ running.old.out.items
         ++ printouts_text (played (asked_events running.old.jobs (asked_ahead Closed (lines text.now))) [] (system_of running.old.monitor)).printouts) }
     ensures left { OnOk result ((played (asked_events running.old.jobs (asked_ahead Closed (lines text.now))) [] (system_of running.old.monitor)).after
@@ -42,6 +45,7 @@ pub(crate) fn play<S: Sink>(
     ensures audited { OnOk result (Puts (S.standing audit.old) (S.standing audit.new)
         (audit_of (asked_events running.old.jobs (asked_ahead Closed (lines text.now))) [] (system_of running.old.monitor))) }
     ensures counted { OnOk result (running.old.jobs + jobs_in (asked_ahead Closed (lines text.now)) ≡ running.new.jobs) }
+    ensures within { OnOk result (length running.new.out.items ≤ W.most watch.old) }
 {
     let mut reader = StreamReader::Cards;
     let mut rest = text;
@@ -49,9 +53,12 @@ pub(crate) fn play<S: Sink>(
         let (line, behind) = first_line(rest);
         let event = read_event(alloc, &mut reader, line)?;
         happen(running, alloc, event, audit)?;
+        watch.look(running.out.len() as u64)?;
         rest = behind;
     }
-    drain(&mut running.monitor, alloc, &mut running.out, audit)
+    drain(&mut running.monitor, alloc, &mut running.out, audit)?;
+    watch.look(running.out.len() as u64)?;
+    Ok(())
 }
 
 // What a line brings. None of a text that was examined is refused.

@@ -1,6 +1,7 @@
 //! A site's machine: its state, by the changes so far.
 
-use crate::machine::run_text;
+use crate::machine::run_watched;
+use crate::watching::{Unwatched, Watch};
 use ledger_behind::Behind;
 use ledger_run::{LedgerError, Machine, Outcome};
 use ledger_sets::{NoChange, State, apply_change};
@@ -32,10 +33,11 @@ impl Model for SiteMachine {
 }
 
 impl SiteMachine {
-    ghost use Rattle.std.specs.Prelude.{◌≡◌, ◌++◌, ◌∷◌, [], Some, IfOk, IfSome, OnOk};
+    ghost use Rattle.std.specs.Prelude.{◌≡◌, ◌≤◌, ◌++◌, ◌∷◌, [], length, Some, IfOk, IfSome, OnOk};
     ghost use Rattle.ledger_sets.specs.Applying.{no_site, after_changes};
     ghost use Rattle.ledger_sets.specs.Seeing.{site_of};
     ghost use Rattle.ledger_machine.specs.Steps.{site_step};
+    ghost use Rattle.ledger_machine.specs.Written.{LeavesWrittenBehind};
 
     /// That of a site of which nothing is known. What jobs name is found by a hash of this seed.
     pub fn new(alloc: Global, seed: Seed) -> SiteMachine
@@ -61,19 +63,26 @@ impl SiteMachine {
         }
     }
 
-    // What a text comes to.
-    fn run_one(&self, text: &[u8]) -> Result<Outcome, LedgerError>
-        ensures { IfOk result (λ outcome. site_step text.now self.now ≡ (outcome.printout.items, outcome.change.items)) }
+    /// What a text comes to, as long as it may go on. Nothing is changed yet. What it leaves and changes can be written.
+    ///
+    /// # Errors
+    ///
+    /// Where memory was short, the machine is of no more use, or the text is none that may run (`Refused`); where the watch says that it may
+    /// not go on.
+    pub fn run_watched<W: Watch>(&self, text: &[u8], watch: &mut W) -> Result<Outcome, LedgerError>
+        ensures told { IfOk result (λ outcome. site_step text.now self.now ≡ (outcome.printout.items, outcome.change.items)) }
+        ensures written { OnOk result (LeavesWrittenBehind text.now self.now) }
+        ensures within { IfOk result (λ outcome. length outcome.printout.items ≤ W.most watch.old) }
     {
         match self.state() {
-            Some(state) => run_text(self.alloc, self.seed, state, text),
+            Some(state) => run_watched(self.alloc, self.seed, state, text, watch),
             None => Err(LedgerError::Refused),
         }
     }
 
     // Makes a change. Where it fails the machine is of no more use.
     #[tactic(auto, using(crate::proofs::Stepping::leads_on))]
-    fn change(&mut self, change: &[u8]) -> Result<(), LedgerError>
+    pub(crate) fn change(&mut self, change: &[u8]) -> Result<(), LedgerError>
         ensures { OnOk result (self.new ≡ self.old ++ change.now ∷ []) }
     {
         if !self.is_whole {
@@ -107,7 +116,8 @@ impl Machine for SiteMachine {
     ghost behind = { λ m. m };
 
     fn run(&mut self, text: &[u8]) -> Result<Outcome, LedgerError> {
-        match self.run_one(text) {
+        let mut free = Unwatched;
+        match self.run_watched(text, &mut free) {
             Ok(outcome) => Ok(outcome),
             Err(error) => Err(error),
         }

@@ -6,7 +6,7 @@ use sno_text::Seed;
 use std::alloc::Global;
 
 // The machine of a site that has accounts, and nothing else yet.
-fn founded(alloc: Global) -> Option<SiteMachine> {
+pub(crate) fn founded(alloc: Global) -> Option<SiteMachine> {
     let tables = tables_change(alloc, b"ANN DESK\nBOB DESK\n", b"1000 ANN\n", b"").ok()?;
     let mut machine = SiteMachine::new(alloc, Seed::fixed());
     machine.apply(&tables).ok()?;
