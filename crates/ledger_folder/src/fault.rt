@@ -121,9 +121,9 @@ fn box_words(fault: BoxFault) -> &'static str {
     match fault {
         BoxFault::Missing => "is missing: the box is passed over",
         BoxFault::NoFolder => "is no folder: the box is passed over",
-        BoxFault::NotOwn => "is neither its user's nor the keeper's: the box is passed over",
+        BoxFault::NotOwn => "is neither its user's nor the operator's: the box is passed over",
         BoxFault::Open => "may be written by others: the box is passed over",
-        BoxFault::Sticky => "lets the keeper take nothing out: the box is passed over",
+        BoxFault::Sticky => "lets the operator take nothing out: the box is passed over",
     }
 }
 
@@ -158,7 +158,7 @@ impl fmt::Display for Fault {
     }
 }
 
-// A path as it is told: users choose names of files, and a line that the keeper reads has none of their control characters. A byte that is
+// A path as it is told: users choose names of files, and a line that the operator reads has none of their control characters. A byte that is
 // no printing ASCII, and a backslash, stands as `\xNN`.
 #[derive(Clone, Copy)]
 struct Shown<'a>(&'a str);
