@@ -46,8 +46,8 @@ fn read_next(
         goto: Goto::Next,
     };
     read_statement(alloc, &body.labels, text, &mut statement)?;
-    note_label(alloc, &mut body.labels, text, index)?;
     push(&mut body.statements, statement)?;
+    note_label(alloc, &mut body.labels, text, index)?;
     Ok(())
 }
 

@@ -101,7 +101,9 @@ pub fn statement_refusal(
         body: None,
         goto: Goto::Next,
     };
-    match read_statement(alloc, labels, text, &mut statement) {
+    let read = read_statement(alloc, labels, text, &mut statement);
+    drop(statement);
+    match read {
         Ok(()) => Ok(None),
         Err(Stop::Refused(refusal)) => Ok(Some(refusal)),
         Err(Stop::Memory) => Err(AllocError),

@@ -4,4 +4,4 @@ use Rattle.sno_syntax.proofs.Spelled.{no_refusal}
 use Rattle.sno_syntax.proofs.statement.statement_refusal.Goals as goal
 
 pub returns-in-Ok : goal.returns-in-Ok
-returns-in-Ok c = sym (no_refusal c.args.labels.now c.args.text.now (statement_of c.read_statement.new.statement) c.in-Ok.ensures.spelled)
+returns-in-Ok c = sym (no_refusal c.args.labels.now c.args.text.now (statement_of c.read_statement-read.new.statement) c.in-Ok.ensures.spelled)
