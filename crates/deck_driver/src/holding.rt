@@ -1,5 +1,5 @@
 //! Which job holds most, as far as a deck was read.
-ghost use Rattle.std.specs.Prelude.{◌≡◌};
+ghost use Rattle.std.specs.Prelude.{◌≡◌, ◌==◌, if◌then◌else◌};
 ghost use Rattle.deck_driver.specs.Holding.{most_at};
 
 use crate::feed::DeckFeed;
@@ -15,13 +15,17 @@ impl DeckFeed {
         self.counts.commands
     }
 
-    /// Notes which job in a slot holds most of its printout, where a card of the stream is due. Before a further line of a
-    /// permission list or of a job what was noted stays, since within these no job has a turn. It takes no memory.
-    pub fn note_most(&self, noted: &mut Option<Holder>)
-        ensures { noted.new ≡ most_at self.now.state noted.old }
+    /// Notes which job in a slot holds most of its printout, where a card of the stream is due and so many commands are counted
+    /// still. Before a further line of a permission list or of a job what was noted stays, since within these no job has a turn. It
+    /// takes no memory.
+    pub fn note_most(&self, commands: u64, noted: &mut Option<Holder>)
+        ensures { noted.new ≡ (if self.now.counts.commands == commands then most_at self.now.state noted.old else noted.old) }
     {
+        // The state is asked first: most lines of a long catalogue are none of a stream.
         if let DeckState::Reading(Section::Stream(StreamReader::Cards, monitor)) = &self.state {
-            *noted = monitor.holds_most();
+            if self.counts.commands == commands {
+                *noted = monitor.holds_most();
+            }
         }
     }
 }

@@ -32,9 +32,7 @@ impl Shortage {
         ensures line { self.new.line ≡ self.old.line }
         ensures job { self.new.job ≡ (if feed.now.counts.commands == commands then most_at feed.now.state self.old.job else self.old.job) }
     {
-        if feed.commands() == commands {
-            feed.note_most(&mut self.job);
-        }
+        feed.note_most(commands, &mut self.job);
     }
 
     // Behind a part of the deck in which at most one line ended: counts that line.
