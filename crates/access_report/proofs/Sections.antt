@@ -7,8 +7,8 @@ use Rattle.mon_access.specs.declared.account.Account.{Account}
 use Rattle.deck_lines.specs.{declared.deck_error.DeckError.{DeckError}, declared.deck_error.DeckError.TheVariants.{Truncated}, inner.Stops.{IfRefused}}
 use Rattle.deck_syntax.specs.{Decks.{Deck}, Sections.{refused_early}}
 use Rattle.access_report.specs.{declared.front.Refusal.{Refusal}, Fronts.{refusal_at}}
-use Rattle.deck_reader.specs.{declared.front_reader.FrontReader.{FrontReader}, Reading.{deck_ahead, accounts_read}}
-use Rattle.deck_reader.specs.declared.front_reader.FrontReader.TheVariants as reader
+use Rattle.deck_syntax.specs.{declared.front_reader.FrontReader.{FrontReader}, Reading.{deck_ahead, accounts_read}}
+use Rattle.deck_syntax.specs.declared.front_reader.FrontReader.TheVariants as reader
 
 ends_here : (at : FrontReader) (n : ℕ) → deck_ahead at n [] ≡ refused_early n Truncated (accounts_read at)
 ends_here reader.Opening n = refl

@@ -4,8 +4,7 @@ ghost use Rattle.std.specs.Str.Lines.{lines};
 ghost use Rattle.access_report.specs.Fronts.{refusal_at, ReachesStream, IsRefusedEarly};
 ghost use Rattle.deck_lines.specs.declared.deck_error.DeckError.{DeckError as AnyCode};
 
-use deck_reader::{Front, FrontReader};
-use deck_syntax::{DeckError, first_line};
+use deck_syntax::{DeckError, Front, FrontReader, first_line};
 use mon_text::Stop;
 use std::alloc::Global;
 

@@ -11,7 +11,7 @@ pub mod question;
 pub mod report;
 
 pub use access::put_access;
-pub use deck_reader::Front;
+pub use deck_syntax::Front;
 pub use fault::Fault;
 pub use front::{Refusal, read_front};
 pub use question::{Form, Question};

@@ -11,7 +11,7 @@ use crate::access::put_access;
 use crate::fault::Fault;
 use crate::front::read_front;
 use crate::question::Question;
-use deck_reader::Front;
+use deck_syntax::Front;
 use std::alloc::Global;
 use std::io::{ErrorKind, Read, Write};
 

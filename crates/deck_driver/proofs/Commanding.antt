@@ -14,8 +14,8 @@ use Rattle.deck_driver.specs.{declared.options.Counts.{Counts}, RunStates.{over,
 use Rattle.deck_driver.specs.{Printouts.{closing}, Feeds.{outcome_of, behind, more, concluded, Conclusion, Good, Bad, Outcome, Begins}, Audits.{told_to}}
 use Rattle.deck_driver.specs.inner.Lines.{GoesOn, counted_by, Served, ServeBreaks, Stopping, StopBreaks}
 use Rattle.deck_driver.proofs.{Counted.{one_counted}, Verdicts.{at_end, verdict}}
-use Rattle.deck_reader.specs.{declared.stream_reader.Event.{Event as AnyEvent}, Events.{event_then}}
-use Rattle.deck_reader.specs.declared.stream_reader.Event.TheVariants as event
+use Rattle.deck_syntax.specs.{declared.stream_reader.Event.{Event as AnyEvent}, Events.{event_then}}
+use Rattle.deck_syntax.specs.declared.stream_reader.Event.TheVariants as event
 
 -- COUNTS
 

@@ -9,10 +9,10 @@ use Rattle.deck_lines.specs.declared.deck_error.DeckError.{DeckError, TheVariant
 use Rattle.deck_lines.specs.Refusing.{unless, line_refusal, is_dollar_line}
 use Rattle.deck_syntax.specs.{Decks.{Deck}, Requests.{end_refusal, list_text_refusal, list_line_refusal, is_list_character}}
 use Rattle.deck_syntax.{specs.Sections.{Open, Closed, InList, InJob, refused_early, refused_on_line, stream_section}, proofs.Shorthand.{deck_goes_on}}
-use Rattle.deck_reader.specs.declared.{front_reader.FrontReader.{FrontReader}, stream_reader.StreamReader.{StreamReader}}
-use Rattle.deck_reader.{specs.Reading.{deck_ahead, accounts_read}, specs.Events.{open_in, refusal_in}, proofs.Following.{cards_refused}}
-use Rattle.deck_reader.specs.declared.front_reader.FrontReader.TheVariants as front
-use Rattle.deck_reader.specs.declared.stream_reader.StreamReader.TheVariants as reader
+use Rattle.deck_syntax.specs.declared.{front_reader.FrontReader.{FrontReader}, stream_reader.StreamReader.{StreamReader}}
+use Rattle.deck_syntax.{specs.Reading.{deck_ahead, accounts_read}, specs.Events.{open_in, refusal_in}, proofs.Following.{cards_refused}}
+use Rattle.deck_syntax.specs.declared.front_reader.FrontReader.TheVariants as front
+use Rattle.deck_syntax.specs.declared.stream_reader.StreamReader.TheVariants as reader
 use Rattle.deck_driver.specs.declared.{options.Options.{Options}, section.Section.{Section}, section.DeckState.{DeckState}}
 use Rattle.deck_driver.specs.{RunStates.{over, opening}, Feeds.{run_state_from, refused_from, outcome_of, outcome, refused_at}, Audits.{told_to, told_from}}
 use Rattle.deck_driver.specs.declared.section.Section.TheVariants as section

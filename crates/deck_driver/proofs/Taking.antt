@@ -7,10 +7,10 @@ use Rattle.mon_device.{specs.Putting.{Standing}, proofs.Putting.{puts_nothing}}
 use Rattle.mon_monitor.specs.{declared.monitor.Monitor.{Monitor}, SystemStates.{SystemState}, Abstraction.{system_of}}
 use Rattle.deck_lines.specs.declared.deck_error.DeckError.{DeckError}
 use Rattle.deck_syntax.specs.Sections.{Closed, stopped, stream_section}
-use Rattle.deck_reader.specs.declared.{front_reader.Front.{Front}, front_reader.FrontReader.{FrontReader}, stream_reader.Event.{Event}}
-use Rattle.deck_reader.specs.declared.stream_reader.StreamReader.{StreamReader, TheVariants.{Cards}}
-use Rattle.deck_reader.specs.{Reading.{deck_ahead, deck_behind}, Events.{cards_ahead, event_then}}
-use Rattle.deck_reader.specs.declared.stream_reader.Event.TheVariants as event
+use Rattle.deck_syntax.specs.declared.{front_reader.Front.{Front}, front_reader.FrontReader.{FrontReader}, stream_reader.Event.{Event}}
+use Rattle.deck_syntax.specs.declared.stream_reader.StreamReader.{StreamReader, TheVariants.{Cards}}
+use Rattle.deck_syntax.specs.{Reading.{deck_ahead, deck_behind}, Events.{cards_ahead, event_then}}
+use Rattle.deck_syntax.specs.declared.stream_reader.Event.TheVariants as event
 use Rattle.deck_driver.specs.{declared.options.Counts.{Counts}, declared.options.Options.{Options}, declared.section.Section.{Section}, Printouts.{answer_to}}
 use Rattle.deck_driver.specs.{declared.section.DeckState.{DeckState}, RunStates.{RunState, over, opening, nothing_counted, both_counted}}
 use Rattle.deck_driver.specs.{Feeds.{run_state_from, outcome_of, behind, is_reading, Good}, Audits.{told_to, told_from}}

@@ -18,8 +18,8 @@ use Rattle.deck_driver.specs.declared.section.DeckState.{DeckState}
 use Rattle.deck_driver.specs.declared.section.DeckState.TheVariants as state
 use Rattle.deck_syntax.specs.Decks.{Ending, Stopped, Refused}
 use Rattle.deck_syntax.specs.Sections.{refused_on_line, refused_early}
-use Rattle.deck_reader.specs.Reading.{deck_ahead, accounts_read, lines_read}
-use Rattle.deck_reader.specs.Events.{cards_ahead}
+use Rattle.deck_syntax.specs.Reading.{deck_ahead, accounts_read, lines_read}
+use Rattle.deck_syntax.specs.Events.{cards_ahead}
 use Rattle.deck_driver.specs.RunStates.{RunState, over, opening, sets_after, nothing_counted, both_counted, all_counted}
 use Rattle.deck_driver.specs.Printouts.{answer_to, ReadsBack}
 

@@ -3,7 +3,7 @@ use Rattle.std.specs.Prelude.{Option}
 use Rattle.scheduler.specs.declared.largest_printout.Holder.{Holder}
 use Rattle.scheduler.specs.Holding.{most_held}
 use Rattle.mon_monitor.specs.Abstraction.{system_of}
-use Rattle.deck_reader.specs.declared.stream_reader.StreamReader.TheVariants.{Cards}
+use Rattle.deck_syntax.specs.declared.stream_reader.StreamReader.TheVariants.{Cards}
 use Rattle.deck_driver.specs.declared.section.Section.TheVariants as section
 use Rattle.deck_driver.specs.declared.section.DeckState.{DeckState}
 use Rattle.deck_driver.specs.declared.section.DeckState.TheVariants as state

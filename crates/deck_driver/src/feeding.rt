@@ -23,7 +23,7 @@ use crate::feed::DeckFeed;
 use crate::options::{Counts, Options};
 use crate::section::{DeckState, Section};
 use deck_lines::DeckError;
-use deck_reader::FrontReader;
+use deck_syntax::FrontReader;
 use mon_device::Sink;
 use mon_monitor::Printed;
 use mon_text::{EndedLine, LineFeed, Stop};

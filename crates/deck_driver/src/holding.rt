@@ -4,7 +4,7 @@ ghost use Rattle.deck_driver.specs.Holding.{most_at};
 
 use crate::feed::DeckFeed;
 use crate::section::{DeckState, Section};
-use deck_reader::StreamReader;
+use deck_syntax::StreamReader;
 use mon_monitor::Holder;
 
 impl DeckFeed {

@@ -13,8 +13,7 @@ ghost use Rattle.deck_driver.specs.Feeds.{outcome, refused_at, lines_loaded, is_
 
 use crate::options::{Counts, Options};
 use crate::serving::{close, next_event, put_event, put_listing};
-use deck_reader::{Event, Front, FrontReader, StreamReader};
-use deck_syntax::DeckError;
+use deck_syntax::{DeckError, Event, Front, FrontReader, StreamReader};
 use mon_catalogue::Catalogue;
 use mon_device::Sink;
 use mon_monitor::{Monitor, Printed};

@@ -4,16 +4,15 @@ ghost use Rattle.std.specs.Prelude.{◌≡◌, ℕ, List, ◌∷◌, ◌+◌, �
 ghost use Rattle.deck_lines.specs.declared.command.Command.TheVariants as commands;
 ghost use Rattle.deck_lines.specs.inner.Stops.{IfRefused};
 ghost use Rattle.deck_syntax.specs.Sections.{refused_on_line};
-ghost use Rattle.deck_reader.specs.declared.stream_reader.Event.TheVariants as event;
-ghost use Rattle.deck_reader.specs.Events.{cards_ahead, event_then};
+ghost use Rattle.deck_syntax.specs.declared.stream_reader.Event.TheVariants as event;
+ghost use Rattle.deck_syntax.specs.Events.{cards_ahead, event_then};
 ghost use Rattle.mon_monitor.specs.Abstraction.{system_of};
 ghost use Rattle.deck_driver.specs.RunStates.{both_counted};
 ghost use Rattle.deck_driver.specs.Printouts.{ReadsBack};
 ghost use Rattle.deck_driver.specs.inner.Lines.{GoesOn, counted_by, Served, ServeBreaks, Stopping, StopBreaks};
 
 use crate::options::Counts;
-use deck_reader::{Event, Listing, StreamReader};
-use deck_syntax::DeckError;
+use deck_syntax::{DeckError, Event, Listing, StreamReader};
 use mon_catalogue::Catalogue;
 use mon_device::Sink;
 use mon_monitor::{Monitor, Printed};
@@ -23,7 +22,7 @@ use std::rc::Rc;
 
 // What the next line brings. Where a growth is refused, what is kept for cards gives way, and it is tried once more.
 #[inline(always)]
-#[tactic(auto, using(deck_reader::proofs::Following::brings_so, deck_reader::proofs::Following::refused_so))]
+#[tactic(auto, using(deck_syntax::proofs::Following::brings_so, deck_syntax::proofs::Following::refused_so))]
 pub(crate) fn next_event(
     alloc: Global,
     reader: &mut StreamReader,

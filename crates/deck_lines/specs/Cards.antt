@@ -7,13 +7,18 @@ use Rattle.deck_lines.specs.declared.card.Card.{Card}
 use Rattle.deck_lines.specs.declared.card.Card.TheVariants.{Accounts, Catalogue, Set, Stream, Create, Delete, SetAcl, EndAcl, ShowAcl, List as Listing, Catalog, Job, Tie, EndJob, Turn, Drain, Stop}
 use Rattle.std.specs.Option.{option_eq}
 
--- the cards, by their words: those of the sections, of the stream, and of jobs and of turns
+-- the cards of jobs and of turns, by their words
+abbrev pub job_cards : List (List ℕ × Card)
+job_cards = (codes "$JOB", Job) ∷ (codes "$UNIT", Tie) ∷ (codes "$EOJ", EndJob) ∷ (codes "$TURN", Turn) ∷ (codes "$DRAIN", Drain) ∷ []
+
+-- those of the stream: the commands, its end, and those
+abbrev pub stream_cards : List (List ℕ × Card)
+stream_cards = (codes "$CREATE", Create) ∷ (codes "$DELETE", Delete) ∷ (codes "$SETACL", SetAcl) ∷ (codes "$ENDACL", EndAcl)
+    ∷ (codes "$SHOWACL", ShowAcl) ∷ (codes "$LIST", Listing) ∷ (codes "$CATALOG", Catalog) ∷ (codes "$STOP", Stop) ∷ job_cards
+
+-- and all: those of the sections, and of the stream
 abbrev pub cards : List (List ℕ × Card)
-cards =
-    (codes "$ACCOUNTS", Accounts) ∷ (codes "$CATALOGUE", Catalogue) ∷ (codes "$SET", Set) ∷ (codes "$STREAM", Stream) ∷ (codes "$CREATE", Create)
-    ∷ (codes "$DELETE", Delete) ∷ (codes "$SETACL", SetAcl) ∷ (codes "$ENDACL", EndAcl) ∷ (codes "$SHOWACL", ShowAcl) ∷ (codes "$LIST", Listing)
-    ∷ (codes "$CATALOG", Catalog) ∷ (codes "$STOP", Stop) ∷ (codes "$JOB", Job) ∷ (codes "$UNIT", Tie) ∷ (codes "$EOJ", EndJob) ∷ (codes "$TURN", Turn)
-    ∷ (codes "$DRAIN", Drain) ∷ []
+cards = (codes "$ACCOUNTS", Accounts) ∷ (codes "$CATALOGUE", Catalogue) ∷ (codes "$SET", Set) ∷ (codes "$STREAM", Stream) ∷ stream_cards
 
 abbrev pub card_of : List ℕ → Option Card
 card_of word = lookup (bytes_eq word) cards

@@ -1,6 +1,7 @@
 //! The cards of a deck, by their first words.
-ghost use Rattle.std.specs.Prelude.{◌≡◌};
-ghost use Rattle.deck_lines.specs.Cards.{card_of};
+ghost use Rattle.std.specs.Prelude.{◌≡◌, bytes_eq};
+ghost use Rattle.std.specs.Map.{lookup};
+ghost use Rattle.deck_lines.specs.Cards.{card_of, stream_cards, job_cards};
 
 /// A card that is known.
 #[derive(Clone, Copy, Debug, PartialEq, Eq)]
@@ -53,7 +54,17 @@ pub fn card_of(word: &[u8]) -> Option<Card>
         Some(Card::Set)
     } else if word == b"$STREAM".as_slice() {
         Some(Card::Stream)
-    } else if word == b"$CREATE".as_slice() {
+    } else {
+        stream_card_of(word)
+    }
+}
+
+// The card of the stream that it names.
+#[inline(always)]
+fn stream_card_of(word: &[u8]) -> Option<Card>
+    ensures { result ≡ lookup (bytes_eq word.now) stream_cards }
+{
+    if word == b"$CREATE".as_slice() {
         Some(Card::Create)
     } else if word == b"$DELETE".as_slice() {
         Some(Card::Delete)
@@ -69,7 +80,17 @@ pub fn card_of(word: &[u8]) -> Option<Card>
         Some(Card::Catalog)
     } else if word == b"$STOP".as_slice() {
         Some(Card::Stop)
-    } else if word == b"$JOB".as_slice() {
+    } else {
+        job_card_of(word)
+    }
+}
+
+// The card of jobs or of turns that it names.
+#[inline(always)]
+fn job_card_of(word: &[u8]) -> Option<Card>
+    ensures { result ≡ lookup (bytes_eq word.now) job_cards }
+{
+    if word == b"$JOB".as_slice() {
         Some(Card::Job)
     } else if word == b"$UNIT".as_slice() {
         Some(Card::Tie)

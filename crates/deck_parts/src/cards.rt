@@ -5,8 +5,7 @@ ghost use Rattle.indexmap.specs.IndexMap.{insert_entry};
 ghost use Rattle.deck_parts.specs.Owning.{created, deleted, is_owner, may_be_created, owner_of};
 
 use deck_lines::Command;
-use deck_reader::{Event, StreamReader};
-use deck_syntax::first_line;
+use deck_syntax::{Event, StreamReader, first_line};
 use indexmap::IndexMap;
 use mon_access::Accounts;
 use mon_catalogue::Catalogue;

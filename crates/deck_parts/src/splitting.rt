@@ -3,7 +3,7 @@
 use crate::cards::Owners;
 use crate::deck::Whole;
 use crate::record::{Record, SetNote, TextNote};
-use deck_reader::Front;
+use deck_syntax::Front;
 use parts::Split;
 use std::alloc::{AllocError, Global};
 

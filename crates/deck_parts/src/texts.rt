@@ -4,8 +4,7 @@ ghost use Rattle.deck_parts.specs.Wholes.{texts_text, AtLineEnd, IsBefore, IsEnd
 
 use crate::deck::Uncut;
 use crate::pieces::first_piece;
-use deck_reader::{Event, StreamReader};
-use deck_syntax::first_line;
+use deck_syntax::{Event, StreamReader, first_line};
 use mon_text::{Name, Stop, read_name};
 use preflight::{Submission, examine};
 use std::alloc::{AllocError, Global};

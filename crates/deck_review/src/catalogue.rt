@@ -1,6 +1,6 @@
 //! The catalogue of a deck, line by line. Of a data set no record is kept.
 
-use crate::review::{Part, Review};
+use crate::review::{Part, Review, list_refusal};
 use acl_text::parse_short;
 use deck_lines::{DeckError, Words, line_refusal};
 use deck_lint::is_line_code;
@@ -8,7 +8,7 @@ use deck_syntax::put_catalogue_line;
 use deck_syntax::reading::MOST_CATALOGUE_LINE_CHARACTERS;
 use mon_catalogue::{Loading, MOST_RECORD_CHARACTERS, MOST_SETS, Version};
 use mon_text::{Name, Stop, put_number, read_count, read_name};
-use std::alloc::AllocError;
+use std::alloc::{AllocError, Global};
 
 /// A data set, as its `$SET` card on a line of the deck has it.
 #[derive(Drop)]
@@ -39,6 +39,29 @@ impl Due {
             Due::Set
         }
     }
+}
+
+// What a line is where a card is due.
+#[derive(Clone, Copy)]
+enum DueLine {
+    /// `$STREAM`.
+    Stream,
+    /// A `$SET` card.
+    Set,
+    /// None of the two, and good.
+    Nothing,
+}
+
+fn due_line(alloc: Global, version: Version, text: &[u8]) -> Result<DueLine, Stop<DeckError>> {
+    let mut loading = Loading::new(alloc, version);
+    let ends = put_catalogue_line(alloc, &mut loading, text)?;
+    Ok(if ends {
+        DueLine::Stream
+    } else if loading.due() {
+        DueLine::Nothing
+    } else {
+        DueLine::Set
+    })
 }
 
 impl Review {
@@ -73,21 +96,23 @@ impl Review {
 
     // A line where a `$SET` card or `$STREAM` is due.
     fn take_due_line(&mut self, version: Version, text: &[u8]) -> Result<bool, AllocError> {
-        let mut loading = Loading::new(self.reporter.alloc, version);
         self.due = Due::Set;
-        match put_catalogue_line(self.reporter.alloc, &mut loading, text) {
-            Ok(true) => self.part = Part::Stream,
-            Ok(false) if loading.due() => {}
-            Ok(false) => self.open_set(text)?,
-            Err(Stop::Refused(code)) => {
-                self.due = Due::Card;
-                self.refuse_in_catalogue(code, text)?;
-                self.put_behind(code)?;
-                return Ok(is_line_code(code));
-            }
+        match due_line(self.reporter.alloc, version, text) {
+            Ok(DueLine::Stream) => self.part = Part::Stream,
+            Ok(DueLine::Set) => self.open_set(text)?,
+            Ok(DueLine::Nothing) => {}
+            Err(Stop::Refused(code)) => return self.refuse_due_line(code, text),
             Err(Stop::Memory) => return Err(AllocError),
         }
         Ok(true)
+    }
+
+    // A line that is refused where a card is due: whether it is read nowhere else.
+    fn refuse_due_line(&mut self, code: DeckError, text: &[u8]) -> Result<bool, AllocError> {
+        self.due = Due::Card;
+        self.refuse_in_catalogue(code, text)?;
+        self.put_behind(code)?;
+        Ok(is_line_code(code))
     }
 
     // A good `$SET` card: its name is noted, or it is told why it may not be.
@@ -113,13 +138,12 @@ impl Review {
             self.refuse_in_catalogue(code, text)?;
             return self.put_within();
         }
-        match parse_short(self.reporter.alloc, text) {
-            Ok(_acl) => Ok(()),
-            Err(Stop::Refused(error)) => {
+        match list_refusal(parse_short(self.reporter.alloc, text))? {
+            Some(error) => {
                 self.reporter.refuse_list(error, text, 1)?;
                 self.put_within()
             }
-            Err(Stop::Memory) => Err(AllocError),
+            None => Ok(()),
         }
     }
 

@@ -3,8 +3,9 @@
 use crate::catalogue::{Due, SetHead};
 use deck_lines::DeckError;
 use deck_lint::{Detail, JobCards, NO_COLUMN, NO_STATEMENT, Reporter, SourceSpan, is_line_code};
-use deck_reader::StreamReader;
-use deck_syntax::{first_line, put_account_line};
+use deck_syntax::{StreamReader, first_line, put_account_line};
+use mon_access::Accounts;
+use mon_acl::{Acl, AclError};
 use mon_catalogue::Version;
 use mon_text::{Name, Stop, put_number};
 use std::alloc::{AllocError, Global};
@@ -36,10 +37,19 @@ pub fn review_submission(
     text: &[u8],
 ) -> Result<Reporter, AllocError> {
     let mut review = Review::of_submission(alloc, detail, own)?;
-    review.take_lines(text)?;
-    review.finish()?;
-    let Review { reporter, .. } = review;
-    Ok(reporter)
+    review.take_all(text)?;
+    Ok(review.into_reporter())
+}
+
+// The account table of a submission: the account that submits it, alone.
+fn own_table(alloc: Global, own: &Name) -> Result<Accounts, AllocError> {
+    let mut line = Vec::from_slice(alloc, own.as_bytes())?;
+    line.extend_from_slice(b" users")?;
+    let mut accounts = Accounts::new(alloc);
+    match put_account_line(alloc, &mut accounts, &line) {
+        Ok(_) => Ok(accounts),
+        Err(_) => Err(AllocError),
+    }
 }
 
 /// A review of a deck. Each of its methods has an error where a growth was refused; the review is then of no use.
@@ -73,17 +83,23 @@ impl Review {
 
     /// The start of a review of what an account submits: a part of a deck's stream. All its cards are to name that account.
     pub fn of_submission(alloc: Global, detail: Detail, own: &Name) -> Result<Review, AllocError> {
+        let accounts = own_table(alloc, own)?;
         let mut review = Review::new(alloc, detail);
-        let mut account = Vec::from_slice(alloc, own.as_bytes())?;
-        account.extend_from_slice(b" users")?;
-        match put_account_line(alloc, &mut review.reporter.accounts, &account) {
-            Ok(_) => {
-                review.reporter.is_submission = true;
-                review.part = Part::Stream;
-                Ok(review)
-            }
-            Err(_) => Err(AllocError),
-        }
+        review.reporter.accounts = accounts;
+        review.reporter.is_submission = true;
+        review.part = Part::Stream;
+        Ok(review)
+    }
+
+    // Takes a whole text.
+    fn take_all(&mut self, text: &[u8]) -> Result<(), AllocError> {
+        self.take_lines(text)?;
+        self.finish()
+    }
+
+    // What it told, and knows of the deck.
+    fn into_reporter(self) -> Reporter {
+        self.reporter
     }
 
     // Takes all lines of a text.
@@ -181,5 +197,16 @@ impl Review {
             }
             Stop::Memory => Err(AllocError),
         }
+    }
+}
+
+// Why a text is no permission list, if it is none.
+pub(crate) fn list_refusal(
+    read: Result<Acl, Stop<AclError>>,
+) -> Result<Option<AclError>, AllocError> {
+    match read {
+        Ok(_acl) => Ok(None),
+        Err(Stop::Refused(error)) => Ok(Some(error)),
+        Err(Stop::Memory) => Err(AllocError),
     }
 }

@@ -1,11 +1,10 @@
 //! The stream of a deck: what the reader's events say, and what is read behind a line that it refuses.
 
-use crate::review::{Part, Review};
+use crate::review::{Part, Review, list_refusal};
 use acl_text::AclText;
 use deck_lines::{Card, Command, MOST_LINE_CHARACTERS, Words, begins_with_dollar};
 use deck_lint::{JobCards, JobCase, is_stream_card, word_column};
-use deck_reader::{Event, StreamReader};
-use deck_syntax::{JobLimits, OpenJob, OpenList};
+use deck_syntax::{Event, JobLimits, OpenJob, OpenList, StreamReader};
 use mon_text::{Name, Stop, read_name};
 use std::alloc::AllocError;
 use std::mem;
@@ -106,10 +105,9 @@ impl Review {
 
     // Tells why a text is no permission list, if it is none.
     fn tell_list(&mut self, list: &AclText, text: &[u8], column: u64) -> Result<(), AllocError> {
-        match list.read(self.reporter.alloc) {
-            Ok(_acl) => Ok(()),
-            Err(Stop::Refused(error)) => self.reporter.refuse_list(error, text, column),
-            Err(Stop::Memory) => Err(AllocError),
+        match list_refusal(list.read(self.reporter.alloc))? {
+            Some(error) => self.reporter.refuse_list(error, text, column),
+            None => Ok(()),
         }
     }
 

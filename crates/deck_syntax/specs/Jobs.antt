@@ -108,5 +108,4 @@ after_job_line job line =
 
 -- a job that has ended, and its number
 abbrev pub job_deck_of : ℕ → OpenJob → JobDeck
-job_deck_of number job =
-    record { number = number; account = job.account; limits = job.limits; ties = job.ties; lines = job.lines }
+job_deck_of number job = record { number = number; account = job.account; limits = job.limits; ties = job.ties; lines = job.lines }

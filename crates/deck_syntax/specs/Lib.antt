@@ -6,3 +6,5 @@ pub mod JobSpelling
 pub mod Spelling
 pub mod Laws
 pub mod inner
+pub mod Reading
+pub mod Events

@@ -2,8 +2,8 @@
 use Rattle.std.proofs.Common.{◌≡◌, ℕ, ◌+◌, List, [], ◌∷◌, ◌++◌, Option, Some, None, refl, sym, ap, subst, ◌∙◌}
 use Rattle.std.specs.{Option.{option_map_or}, List.{AllByRecursion}}
 use Rattle.deck_lines.specs.Commands.{account_of}
-use Rattle.deck_reader.specs.{declared.stream_reader.Event.{Event}, Events.{refusal_in, event_in, open_after}}
-use Rattle.deck_reader.specs.declared.stream_reader.Event.TheVariants as event
+use Rattle.deck_syntax.specs.{declared.stream_reader.Event.{Event}, Events.{refusal_in, event_in, open_after}}
+use Rattle.deck_syntax.specs.declared.stream_reader.Event.TheVariants as event
 use Rattle.deck_syntax.specs.{Decks.{Asked}, Sections.{Open, Closed, InList, InJob}}
 use Rattle.preflight.{specs.declared.why.Why.{Why}, specs.Examined.{IsOwn, Verdict, Admits, Refuses}, proofs.Goes.{Goes, further, stepped}}
 use Rattle.preflight.{specs.inner.Reading.{asks_of, refused_to, why_in, and_then, all_then, examined}, proofs.Verdicts.{none_both, is_own}}

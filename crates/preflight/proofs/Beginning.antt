@@ -2,7 +2,7 @@
 use Rattle.std.proofs.Common.{◌≡◌, ℕ, suc, ◌+◌, Bool, true, false, if◌then◌else◌, List, [], ◌∷◌, ◌++◌, take, Option, Some, None, refl, ap, ◌∙◌, arith}
 use Rattle.std.specs.{Prelude.{codes}, Option.{option_map_or}}
 use Rattle.deck_lines.specs.Refusing.{is_dollar_line}
-use Rattle.deck_reader.specs.Events.{refusal_in, event_in, event_of, opened_by, open_after}
+use Rattle.deck_syntax.specs.Events.{refusal_in, event_in, event_of, opened_by, open_after}
 use Rattle.deck_syntax.specs.{declared.request.Request.{Request}, Decks.{Asked, Commands, Enters}, Jobs.{ends_job, after_job_line}}
 use Rattle.deck_syntax.specs.{Requests.{with_line, set_acl_of, request_on}, Sections.{Open, Closed, InList, InJob}}
 use Rattle.deck_syntax.specs.declared.request.Request.TheVariants as request

@@ -1,8 +1,8 @@
 -- Lines that ask for this, whatever follows them, with nothing open behind them.
 use Rattle.std.proofs.Common.{◌≡◌, ℕ, ◌+◌, List, ◌∷◌, ◌++◌, None, refl, sym, ap, ◌∙◌, append_assoc}
 use Rattle.std.specs.Prelude.{codes}
-use Rattle.deck_reader.{specs.declared.stream_reader.Event.{Event}, specs.Events.{refusal_in, event_in, open_after, event_then}, proofs.Following.{by_event}}
-use Rattle.deck_reader.specs.declared.stream_reader.Event.TheVariants as event
+use Rattle.deck_syntax.{specs.declared.stream_reader.Event.{Event}, specs.Events.{refusal_in, event_in, open_after, event_then}, proofs.Following.{by_event}}
+use Rattle.deck_syntax.specs.declared.stream_reader.Event.TheVariants as event
 use Rattle.deck_syntax.{specs.Decks.{Cards, Asked}, specs.Sections.{Open, Closed, stream_section}, proofs.Shorthand.{goes_on}}
 use Rattle.preflight.specs.inner.Reading.{asks_of}
 

@@ -4,9 +4,9 @@ use Rattle.std.specs.{Prelude.{option_map}, Option.{option_or, option_map_or}, L
 use Rattle.mon_text.specs.Lines.{words}
 use Rattle.deck_lines.specs.{Commands.{account_of}, Refusing.{is_dollar_line}, declared.deck_error.DeckError.{DeckError}}
 use Rattle.deck_lines.specs.declared.deck_error.DeckError.TheVariants.{OutOfPlace, Truncated}
-use Rattle.deck_reader.specs.{declared.stream_reader.Event.{Event}, Events.{refusal_in, event_in, event_of, opened_by, open_after, event_then}}
-use Rattle.deck_reader.proofs.Following.{by_event}
-use Rattle.deck_reader.specs.declared.stream_reader.Event.TheVariants as event
+use Rattle.deck_syntax.specs.{declared.stream_reader.Event.{Event}, Events.{refusal_in, event_in, event_of, opened_by, open_after, event_then}}
+use Rattle.deck_syntax.proofs.Following.{by_event}
+use Rattle.deck_syntax.specs.declared.stream_reader.Event.TheVariants as event
 use Rattle.deck_syntax.specs.{declared.request.Request.{Request}, declared.job.OpenJob.{OpenJob}, Decks.{Cards, Asked, Ending, Stopped, Refused}}
 use Rattle.deck_syntax.specs.{Jobs.{is_job_card_line, ends_job, after_job_line, unit_on}, Requests.{with_line, set_acl_of, request_on}}
 use Rattle.deck_syntax.specs.{Sections.{Open, Closed, InList, InJob, asked_then, stream_section}, inner.Parts.{with_unit, with_program_line, program_text}}

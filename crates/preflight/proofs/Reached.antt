@@ -3,7 +3,7 @@ use Rattle.std.proofs.Common.{◌≡◌, ℕ, ◌+◌, List, [], ◌∷◌, ◌+
 use Rattle.std.specs.{Option.{option_map_or}, Str.Lines.{lines}}
 use Rattle.mon_text.specs.declared.stop.Stop.{Stop}
 use Rattle.mon_text.specs.declared.stop.Stop.TheVariants as stop
-use Rattle.deck_reader.specs.Events.{event_in, open_after}
+use Rattle.deck_syntax.specs.Events.{event_in, open_after}
 use Rattle.deck_syntax.specs.{Decks.{Asked}, Sections.{Open, Closed, InList, InJob}}
 use Rattle.preflight.specs.declared.{intake.Counts.{Counts}, tally.Tally.{Tally}, why.Why.{Why}, why.Refusal.{Refusal}}
 use Rattle.preflight.specs.{declared.why.Why.TheVariants.{Unfinished}, Examined.{Admits, Refuses}, inner.Reading.{asks_of, why_in, all_then, at_end, examined}}

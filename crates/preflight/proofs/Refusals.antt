@@ -2,8 +2,8 @@
 use Rattle.std.proofs.Common.{◌≡◌, ℕ, suc, ◌+◌, ◌<◌, ◌⊎◌, inl, inr, Bool, true, false, if◌then◌else◌, List, [], ◌∷◌, ◌++◌, length, take, bytes_eq, Option, Some, None, refl, sym, ap, subst, ◌∙◌, arith}
 use Rattle.std.specs.{Prelude.{option_map}, Option.{option_or, option_map_or}}
 use Rattle.deck_lines.specs.{Commands.{account_of}, declared.deck_error.DeckError.{DeckError}, declared.deck_error.DeckError.TheVariants.{Truncated}}
-use Rattle.deck_reader.{specs.declared.stream_reader.Event.{Event}, specs.Events.{refusal_in, event_in, open_after, event_then}, proofs.Following.{by_event}}
-use Rattle.deck_reader.specs.declared.stream_reader.Event.TheVariants as event
+use Rattle.deck_syntax.{specs.declared.stream_reader.Event.{Event}, specs.Events.{refusal_in, event_in, open_after, event_then}, proofs.Following.{by_event}}
+use Rattle.deck_syntax.specs.declared.stream_reader.Event.TheVariants as event
 use Rattle.deck_syntax.specs.{Decks.{Cards, Asked, Ending, Stopped, Refused}, Sections.{Open, Closed, InList, InJob, stream_section}}
 use Rattle.deck_syntax.proofs.Shorthand.{goes_on}
 use Rattle.preflight.specs.{declared.why.Why.{Why}, declared.why.Why.TheVariants.{Line, Foreign, Stops, Unfinished}, Examined.{Verdict, Admits, Refuses}}

@@ -10,8 +10,8 @@ use Rattle.deck_syntax.specs.{declared.job.OpenJob.{OpenJob}, Decks.{Asked, Comm
 use Rattle.preflight.specs.{declared.tally.Tally.{Tally}, declared.intake.Counts.{Counts}, inner.Reading.{asks_of}}
 use Rattle.preflight.specs.Tallies.{jobs_of, creates, statements_of, work_of, more_work, tally_of}
 use Rattle.preflight.specs.inner.Counts.{IsBelow, Counted, one_line, one_creation, one_job}
-use Rattle.deck_reader.specs.declared.stream_reader.Event.{Event}
-use Rattle.deck_reader.specs.declared.stream_reader.Event.TheVariants as event
+use Rattle.deck_syntax.specs.declared.stream_reader.Event.{Event}
+use Rattle.deck_syntax.specs.declared.stream_reader.Event.TheVariants as event
 
 jobs_append : (xs ys : List Asked) → jobs_of (xs ++ ys) ≡ jobs_of xs ++ jobs_of ys
 jobs_append [] ys = refl

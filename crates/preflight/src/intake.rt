@@ -1,7 +1,7 @@
 //! A text is taken in line by line: what the reader's events ask for is counted, if it may be asked.
 ghost use Rattle.std.specs.Prelude.{◌≡◌, List, IfOk, IfErr, OnOk};
 ghost use Rattle.std.specs.Str.Lines.{lines};
-ghost use Rattle.deck_reader.specs.Events.{open_in, event_in, open_after};
+ghost use Rattle.deck_syntax.specs.Events.{open_in, event_in, open_after};
 ghost use Rattle.deck_syntax.specs.Decks.{Asked, Commands};
 ghost use Rattle.deck_syntax.specs.Sections.{Closed};
 ghost use Rattle.preflight.specs.Examined.{Admits, Refuses};
@@ -14,8 +14,7 @@ ghost use Rattle.sno_cards.specs.Limits.{AreLimits};
 use crate::tally::Tally;
 use crate::why::{Refusal, Why};
 use deck_lines::Command;
-use deck_reader::{Event, StreamReader};
-use deck_syntax::first_line;
+use deck_syntax::{Event, StreamReader, first_line};
 use mon_text::{Name, Stop};
 use sno_cards::Limits;
 use std::alloc::Global;

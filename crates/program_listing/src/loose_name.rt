@@ -60,14 +60,7 @@ pub fn loose_names(alloc: Global, cards: &ProgramCards) -> Result<Vec<LooseName>
         has_tables: false,
         untabled: Labels::new(alloc, Seed::fixed()),
     };
-    for (index, text) in cards.statements().iter().enumerate() {
-        known.note_statement(text, index)?;
-    }
-    let mut loose = Vec::new(alloc);
-    for (index, text) in cards.statements().iter().enumerate() {
-        known.put_loose(text, index, &mut loose)?;
-    }
-    Ok(loose)
+    known.loose_in(cards.statements())
 }
 
 // The names that a program gives a meaning.
@@ -83,6 +76,23 @@ struct Known {
 }
 
 impl Known {
+    // Notes what the statements of a program give a meaning, and then collects the names in them that lead nowhere.
+    fn loose_in(&mut self, texts: &[StatementText]) -> Result<Vec<LooseName>, AllocError> {
+        self.note_statements(texts)?;
+        let mut loose = Vec::new(self.alloc);
+        for (index, text) in texts.iter().enumerate() {
+            self.put_loose(text, index, &mut loose)?;
+        }
+        Ok(loose)
+    }
+
+    fn note_statements(&mut self, texts: &[StatementText]) -> Result<(), AllocError> {
+        for (index, text) in texts.iter().enumerate() {
+            self.note_statement(text, index)?;
+        }
+        Ok(())
+    }
+
     // Notes the label of a statement, whether it calls TABLE, and the functions that it gives to DEFINE as literals.
     fn note_statement(&mut self, text: &StatementText, index: usize) -> Result<(), AllocError> {
         self.labels

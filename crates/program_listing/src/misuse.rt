@@ -90,20 +90,36 @@ fn later_at(tokens: &[Token<'_>], at: usize) -> Option<Misuse> {
 
 // A number out of the range of the keyword whose name is at an index.
 fn number_at(tokens: &[Token<'_>], at: usize, name: &[u8]) -> Option<Misuse> {
-    let is_set = matches!(
-        &tokens.get(at.saturating_add(1))?.kind,
-        TokenKind::Part(Part::Equals)
-    );
-    let is_less = matches!(
-        &tokens.get(at.saturating_add(2))?.kind,
-        TokenKind::Mark(Mark::Minus)
-    );
-    let place = at.saturating_add(if is_less { 3 } else { 2 });
-    let number = match &tokens.get(place)?.kind {
-        TokenKind::Constant(Constant::Integer(number)) if is_set => *number,
-        _ => return None,
-    };
-    let is_less = is_less && number > 0;
+    if !is_equals(tokens.get(at.saturating_add(1))?) {
+        return None;
+    }
+    let behind = at.saturating_add(2);
+    if is_minus(tokens.get(behind)?) {
+        let number = integer_at(tokens, behind.saturating_add(1))?;
+        misused_number(name, number, number > 0)
+    } else {
+        misused_number(name, integer_at(tokens, behind)?, false)
+    }
+}
+
+fn is_equals(token: &Token<'_>) -> bool {
+    matches!(&token.kind, TokenKind::Part(Part::Equals))
+}
+
+fn is_minus(token: &Token<'_>) -> bool {
+    matches!(&token.kind, TokenKind::Mark(Mark::Minus))
+}
+
+// The number that the token at an index is, if it is one.
+fn integer_at(tokens: &[Token<'_>], index: usize) -> Option<i64> {
+    match &tokens.get(index)?.kind {
+        TokenKind::Constant(Constant::Integer(number)) => Some(*number),
+        _ => None,
+    }
+}
+
+// How a keyword is misused that is set to a number, or to what is less than 0.
+fn misused_number(name: &[u8], number: i64, is_less: bool) -> Option<Misuse> {
     match name {
         b"STLIMIT" if is_less => Some(Misuse::Statements),
         b"MAXLNGTH" if is_less || number > MOST_CHARACTERS as i64 => Some(Misuse::Characters),

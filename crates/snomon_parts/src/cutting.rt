@@ -7,7 +7,7 @@ ghost use Rattle.snomon_parts.specs.Cuts.{IsCut};
 
 use access_report::{Refusal, read_front};
 use deck_parts::{Uncut, Whole, read_whole};
-use deck_reader::Front;
+use deck_syntax::Front;
 use mon_text::Stop;
 use parts::Split;
 use round_cut::cut_round;

@@ -11,11 +11,11 @@ use Rattle.mon_monitor.specs.SystemStates.{SystemState, first_system}
 use Rattle.mon_monitor.specs.Abstraction.{system_of}
 use Rattle.deck_syntax.specs.Decks.{Cards as AllCards}
 use Rattle.deck_syntax.specs.Sections.{stopped}
-use Rattle.deck_reader.specs.declared.front_reader.Front.{Front}
-use Rattle.deck_reader.specs.declared.stream_reader.StreamReader.TheVariants.{Cards}
-use Rattle.deck_reader.specs.declared.stream_reader.Event.{Event}
-use Rattle.deck_reader.specs.declared.stream_reader.Event.TheVariants as event
-use Rattle.deck_reader.specs.Events.{event_then}
+use Rattle.deck_syntax.specs.declared.front_reader.Front.{Front}
+use Rattle.deck_syntax.specs.declared.stream_reader.StreamReader.TheVariants.{Cards}
+use Rattle.deck_syntax.specs.declared.stream_reader.Event.{Event}
+use Rattle.deck_syntax.specs.declared.stream_reader.Event.TheVariants as event
+use Rattle.deck_syntax.specs.Events.{event_then}
 use Rattle.deck_driver.specs.declared.options.Counts.{Counts}
 use Rattle.deck_driver.specs.declared.options.Options.{Options}
 use Rattle.deck_driver.specs.declared.section.Section.TheVariants as section

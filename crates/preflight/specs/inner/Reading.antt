@@ -2,9 +2,9 @@
 use Rattle.std.specs.Prelude.{ℕ, ◌+◌, List, [], ◌∷◌, Option, Some, None, option_map, if◌then◌else◌, bytes_eq}
 use Rattle.std.specs.Option.{option_or, option_map_or}
 use Rattle.deck_lines.specs.Commands.{account_of}
-use Rattle.deck_reader.specs.declared.stream_reader.Event.{Event}
-use Rattle.deck_reader.specs.declared.stream_reader.Event.TheVariants as event
-use Rattle.deck_reader.specs.Events.{refusal_in, event_in, open_after}
+use Rattle.deck_syntax.specs.declared.stream_reader.Event.{Event}
+use Rattle.deck_syntax.specs.declared.stream_reader.Event.TheVariants as event
+use Rattle.deck_syntax.specs.Events.{refusal_in, event_in, open_after}
 use Rattle.deck_syntax.specs.Decks.{Asked, Commands, Enters, Gives, Drains}
 use Rattle.deck_syntax.specs.Sections.{Open, Closed, InList, InJob}
 use Rattle.preflight.specs.declared.why.Why.{Why}

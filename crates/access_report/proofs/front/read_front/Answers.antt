@@ -2,7 +2,7 @@ use Rattle.std.proofs.Common.{◌+◌, sym, ◌∙◌}
 use Rattle.std.specs.Str.Lines.{lines}
 use Rattle.mon_text.proofs.Cutting.{nothing_kept}
 use Rattle.deck_syntax.specs.Sections.{deck_of}
-use Rattle.deck_reader.specs.declared.front_reader.Front.{Front}
+use Rattle.deck_syntax.specs.declared.front_reader.Front.{Front}
 use Rattle.access_report.proofs.Sections.{is_refused, is_truncated, told_at, told_so}
 use Rattle.access_report.proofs.front.read_front.Goals as goal
 use Rattle.deck_lines.specs.declared.deck_error.DeckError.TheVariants.{Truncated}

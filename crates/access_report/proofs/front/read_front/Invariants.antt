@@ -2,7 +2,7 @@
 use Rattle.std.proofs.Common.{◌≡◌, ◌+◌, ◌≤◌, length}
 use Rattle.std.specs.Str.Lines.{lines}
 use Rattle.deck_syntax.specs.Sections.{deck_of}
-use Rattle.deck_reader.specs.Reading.{deck_ahead, lines_read}
+use Rattle.deck_syntax.specs.Reading.{deck_ahead, lines_read}
 use Rattle.access_report.proofs.front.read_front.Given as goal
 
 abbrev pub invariant-lines : goal.invariant-lines

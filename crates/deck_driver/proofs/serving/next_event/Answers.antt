@@ -2,8 +2,8 @@ use Rattle.std.proofs.Common.{◌≡◌, ◌+◌, ◌∷◌, List, ℕ, subst, �
 use Rattle.std.{specs.Prelude.{IfOk, IfErr}, proofs.lemmas.Result.{IfErr-at_err}}
 use Rattle.deck_lines.specs.inner.Stops.{IfRefused}
 use Rattle.deck_syntax.specs.Sections.{refused_on_line}
-use Rattle.deck_reader.specs.{declared.stream_reader.StreamReader.{StreamReader}, Events.{cards_ahead, event_then}}
-use Rattle.deck_reader.proofs.Following.{brings_so, refused_so}
+use Rattle.deck_syntax.specs.{declared.stream_reader.StreamReader.{StreamReader}, Events.{cards_ahead, event_then}}
+use Rattle.deck_syntax.proofs.Following.{brings_so, refused_so}
 use Rattle.deck_driver.proofs.serving.next_event.Goals as goal
 
 pub returns-in_default-2-clause-brings : goal.returns-in_default-2-clause-brings

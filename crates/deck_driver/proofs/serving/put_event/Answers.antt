@@ -2,8 +2,8 @@ use Rattle.std.proofs.Common.{refl, ap, ◌∙◌}
 use Rattle.std.proofs.lemmas.Result.{on_ok_weaker}
 use Rattle.mon_monitor.specs.{Abstraction.{system_of}, Events.{Serve, Load, Give, Drain}}
 use Rattle.deck_syntax.specs.Decks.{Commands, Enters, Gives, Drains}
-use Rattle.deck_reader.specs.declared.stream_reader.Event.{Event}
-use Rattle.deck_reader.specs.declared.stream_reader.Event.TheVariants as event
+use Rattle.deck_syntax.specs.declared.stream_reader.Event.{Event}
+use Rattle.deck_syntax.specs.declared.stream_reader.Event.TheVariants as event
 use Rattle.deck_driver.specs.{RunStates.{both_counted}, inner.Lines.{counted_by}}
 use Rattle.deck_driver.proofs.Commanding.{counted_when, passes, on_served, on_broken, job_numbered}
 use Rattle.deck_driver.proofs.serving.put_event.Goals as goal

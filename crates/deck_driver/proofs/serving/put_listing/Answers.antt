@@ -3,7 +3,7 @@ use Rattle.std.proofs.lemmas.Result.{on_ok_weaker}
 use Rattle.mon_monitor.specs.{Abstraction.{system_of}, Events.{Serve}}
 use Rattle.deck_lines.specs.declared.command.Command.TheVariants.{List as Listing}
 use Rattle.deck_syntax.specs.Decks.{Commands}
-use Rattle.deck_reader.specs.declared.stream_reader.Event.TheVariants.{Asks}
+use Rattle.deck_syntax.specs.declared.stream_reader.Event.TheVariants.{Asks}
 use Rattle.deck_driver.proofs.Commanding.{counted_when, command_counted, on_served, on_broken}
 use Rattle.deck_driver.proofs.serving.put_listing.Goals as goal
 

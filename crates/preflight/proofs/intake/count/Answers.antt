@@ -1,6 +1,6 @@
 use Rattle.std.proofs.Common.{sym, subst, ◌∙◌, arith}
 use Rattle.mon_text.proofs.Cutting.{nothing_kept}
-use Rattle.deck_reader.specs.Events.{open_in}
+use Rattle.deck_syntax.specs.Events.{open_in}
 use Rattle.preflight.specs.declared.{tally.Tally.{Tally}, intake.Counts.{Counts}}
 use Rattle.preflight.proofs.Reached.{Reached, EndsAs, at_first, line_more, stopped, at_last}
 use Rattle.deck_syntax.specs.Sections.{Closed}

@@ -1,6 +1,6 @@
 use Rattle.std.proofs.Common.{refl, ap, ◌∙◌}
 use Rattle.deck_lines.specs.declared.command.Command.TheVariants.{List as Listing}
-use Rattle.deck_reader.specs.declared.stream_reader.Event.TheVariants.{Asks}
+use Rattle.deck_syntax.specs.declared.stream_reader.Event.TheVariants.{Asks}
 use Rattle.deck_driver.{specs.declared.section.Section.{Section}, proofs.Taking.{untaken, not_read, errs_silently, card_breaks, breaks_at, on_err}}
 use Rattle.deck_driver.specs.declared.section.Section.TheVariants as section
 use Rattle.deck_driver.specs.declared.section.DeckState.TheVariants as state

@@ -1,5 +1,5 @@
 use Rattle.std.proofs.Common.{sym, ◌∙◌}
-use Rattle.deck_reader.specs.declared.stream_reader.Event.TheVariants as event
+use Rattle.deck_syntax.specs.declared.stream_reader.Event.TheVariants as event
 use Rattle.preflight.specs.inner.Counts.{one_line, one_creation, one_job}
 use Rattle.preflight.proofs.Tallying.{plain_counted, command_counted, made_counted, job_counted, counted_at}
 use Rattle.preflight.proofs.intake.Counts.with.Goals as goal

@@ -6,12 +6,14 @@ ghost use Rattle.deck_lines.specs.inner.Stops.{Answers};
 ghost use Rattle.deck_syntax.specs.Decks.{Commands};
 ghost use Rattle.deck_syntax.specs.Requests.{list_line_refusal, with_line};
 ghost use Rattle.deck_syntax.specs.Sections.{Closed, asked_then};
-ghost use Rattle.deck_reader.specs.declared.stream_reader.StreamReader.TheVariants as reader;
-ghost use Rattle.deck_reader.specs.Events.{open_in, refusal_in, event_in, open_after, event_of, opened_by, event_at_end, cards_ahead};
+ghost use Rattle.deck_syntax.specs.declared.stream_reader.StreamReader.TheVariants as reader;
+ghost use Rattle.deck_syntax.specs.Events.{open_in, refusal_in, event_in, open_after, event_of, opened_by, event_at_end, cards_ahead};
 
+use crate::job::{OpenJob, is_job_card_line};
+use crate::list::OpenList;
 use crate::listing::{Listing, listing_on};
+use crate::request::{Request, ends_list, read_request};
 use deck_lines::{Command, DeckError, Turn, begins_with_dollar};
-use deck_syntax::{OpenJob, OpenList, Request, ends_list, is_job_card_line, read_request};
 use mon_text::{Name, Stop};
 use std::alloc::Global;
 use std::mem;

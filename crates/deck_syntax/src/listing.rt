@@ -6,9 +6,9 @@ ghost use Rattle.deck_lines.specs.declared.command.Command.TheVariants as comman
 ghost use Rattle.deck_syntax.specs.declared.request.Request.TheVariants as request;
 ghost use Rattle.deck_lines.specs.Refusing.{line_refusal};
 ghost use Rattle.deck_syntax.specs.Requests.{request_on, stream_refusal};
-ghost use Rattle.deck_reader.specs.inner.Listed.{Lists};
+ghost use Rattle.deck_syntax.specs.inner.Listed.{Lists};
 
-use deck_syntax::from_blank;
+use deck_lines::from_blank;
 use mon_text::{Name, read_name};
 
 /// What a card lists: the records of a data set, for an account.

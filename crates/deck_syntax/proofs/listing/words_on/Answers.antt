@@ -1,6 +1,6 @@
 use Rattle.std.proofs.Common.{arith}
-use Rattle.deck_reader.proofs.CardWords.{fits, parted}
-use Rattle.deck_reader.proofs.listing.words_on.Goals as goal
+use Rattle.deck_syntax.proofs.CardWords.{fits, parted}
+use Rattle.deck_syntax.proofs.listing.words_on.Goals as goal
 
 pub slice_bounds-result-count : goal.slice_bounds-result-count
 slice_bounds-result-count c = fits c.in_ok-words.words.now c.from_blank-behind.result.now c.from_blank-behind.ensures

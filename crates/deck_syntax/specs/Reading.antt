@@ -3,9 +3,9 @@ use Rattle.std.specs.Prelude.{◌≡◌, ℕ, true, List, [], Option, Some, None
 use Rattle.mon_access.specs.declared.account.Account.{Account}
 use Rattle.mon_catalogue.specs.Progress.{lines_taken, is_due}
 use Rattle.deck_syntax.specs.Decks.{Deck}
-use Rattle.deck_reader.specs.declared.front_reader.Front.{Front}
-use Rattle.deck_reader.specs.declared.front_reader.FrontReader.{FrontReader}
-use Rattle.deck_reader.specs.declared.front_reader.FrontReader.TheVariants as front
+use Rattle.deck_syntax.specs.declared.front_reader.Front.{Front}
+use Rattle.deck_syntax.specs.declared.front_reader.FrontReader.{FrontReader}
+use Rattle.deck_syntax.specs.declared.front_reader.FrontReader.TheVariants as front
 use Rattle.deck_syntax.specs.Sections.{Closed, opening_section, accounts_section, catalogue_section, stream_section, sets_of}
 
 -- the deck that the lines make

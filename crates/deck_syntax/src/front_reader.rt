@@ -3,14 +3,14 @@ ghost use Rattle.std.specs.Prelude.{◌≡◌, ◌+◌, ◌<◌, ◌≤◌, ◌^
 ghost use Rattle.mon_access.specs.declared.account.Account.{Account};
 ghost use Rattle.mon_catalogue.specs.Progress.{SetDue};
 ghost use Rattle.deck_lines.specs.inner.Stops.{IfRefused};
-ghost use Rattle.deck_reader.specs.declared.front_reader.FrontReader.TheVariants as reader;
+ghost use Rattle.deck_syntax.specs.declared.front_reader.FrontReader.TheVariants as reader;
 ghost use Rattle.deck_syntax.specs.Sections.{refused_early};
-ghost use Rattle.deck_reader.specs.Reading.{deck_ahead, deck_behind, deck_opened, accounts_read, lines_read, MayOpen};
+ghost use Rattle.deck_syntax.specs.Reading.{deck_ahead, deck_behind, deck_opened, accounts_read, lines_read, MayOpen};
 
-use deck_lines::DeckError;
-use deck_syntax::{
+use crate::reading::{
     finish_catalogue, opens_accounts, put_account_line, put_catalogue_line, put_record_line,
 };
+use deck_lines::DeckError;
 use mon_access::Accounts;
 use mon_catalogue::{Catalogue, Loading, Version};
 use mon_text::Stop;
@@ -94,13 +94,12 @@ impl FrontReader {
     fn open_catalogue(&mut self, alloc: Global, version: Version)
         ensures { (accounts : List Account) → self.old ≡ reader.Accounts accounts → self.new ≡ reader.Catalogue accounts (SetDue version 0 []) }
     {
-        let next = match mem::replace(self, FrontReader::Opening) {
+        match mem::replace(self, FrontReader::Opening) {
             FrontReader::Accounts(accounts) => {
-                FrontReader::Catalogue(accounts, Loading::new(alloc, version))
+                *self = FrontReader::Catalogue(accounts, Loading::new(alloc, version));
             }
-            other => other,
-        };
-        *self = next;
+            other => *self = other,
+        }
     }
 
     // The front that was read, where the catalogue is whole.

@@ -9,10 +9,10 @@ use Rattle.deck_syntax.specs.Decks.{Cards, Commands, Enters, Gives, Drains}
 use Rattle.deck_syntax.specs.Jobs.{job_line_refusal, ends_job, after_job_line}
 use Rattle.deck_syntax.specs.Requests.{stream_refusal, request_on, opened, with_line, set_acl_of, list_line_refusal}
 use Rattle.deck_syntax.specs.Sections.{Open, Closed, InList, InJob, asked_then, stopped, stream_section}
-use Rattle.deck_reader.specs.declared.stream_reader.Event.{Event}
-use Rattle.deck_reader.specs.declared.stream_reader.Event.TheVariants as event
-use Rattle.deck_reader.specs.declared.stream_reader.StreamReader.{StreamReader}
-use Rattle.deck_reader.specs.declared.stream_reader.StreamReader.TheVariants as reader
+use Rattle.deck_syntax.specs.declared.stream_reader.Event.{Event}
+use Rattle.deck_syntax.specs.declared.stream_reader.Event.TheVariants as event
+use Rattle.deck_syntax.specs.declared.stream_reader.StreamReader.{StreamReader}
+use Rattle.deck_syntax.specs.declared.stream_reader.StreamReader.TheVariants as reader
 
 -- what is open where a reader stands
 abbrev pub open_in : StreamReader → Open

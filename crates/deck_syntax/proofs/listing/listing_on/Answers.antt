@@ -1,5 +1,5 @@
-use Rattle.deck_reader.proofs.CardWords.{asks_so}
-use Rattle.deck_reader.proofs.listing.listing_on.Goals as goal
+use Rattle.deck_syntax.proofs.CardWords.{asks_so}
+use Rattle.deck_syntax.proofs.listing.listing_on.Goals as goal
 
 pub returns-clause-value : goal.returns-clause-value
 returns-clause-value c =

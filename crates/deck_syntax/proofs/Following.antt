@@ -12,10 +12,10 @@ use Rattle.deck_syntax.specs.declared.request.Request.TheVariants as request
 use Rattle.deck_syntax.specs.Sections.{Open, Closed, InList, InJob, requested, asked_then, stream_section, refused_on_line, catalogue_section, catalogue_refusal, ends_catalogue, sets_of}
 use Rattle.mon_access.specs.declared.account.Account.{Account}
 use Rattle.mon_catalogue.specs.Progress.{Progress, step}
-use Rattle.deck_reader.specs.declared.stream_reader.{Event.{Event}, StreamReader.{StreamReader}}
-use Rattle.deck_reader.specs.Events.{open_in, refusal_in, event_in, event_of, opened_by, open_after, cards_ahead, event_then}
-use Rattle.deck_reader.specs.declared.stream_reader.Event.TheVariants as event
-use Rattle.deck_reader.specs.declared.stream_reader.StreamReader.TheVariants as reader
+use Rattle.deck_syntax.specs.declared.stream_reader.{Event.{Event}, StreamReader.{StreamReader}}
+use Rattle.deck_syntax.specs.Events.{open_in, refusal_in, event_in, event_of, opened_by, open_after, cards_ahead, event_then}
+use Rattle.deck_syntax.specs.declared.stream_reader.Event.TheVariants as event
+use Rattle.deck_syntax.specs.declared.stream_reader.StreamReader.TheVariants as reader
 
 -- what a request brings, and what is open behind it, is all that the lines behind it are read by
 by_request : (r : Request) (rest : Open → Cards) → requested r rest ≡ event_then (event_of r) (rest (opened_by r))

@@ -8,7 +8,7 @@ use Rattle.deck_lines.specs.declared.command.Command.TheVariants as command
 use Rattle.deck_lines.specs.declared.deck_error.DeckError.{DeckError, TheVariants.{BadName, BadCharacter, LineTooLong}}
 use Rattle.deck_lines.specs.{Cards.{card_among}, Refusing.{unless, line_refusal}}
 use Rattle.deck_syntax.specs.{declared.request.Request.TheVariants.{Asks}, Requests.{stream_card_refusal, stream_refusal, card_request, request_on}}
-use Rattle.deck_reader.specs.inner.Listed.{Lists}
+use Rattle.deck_syntax.specs.inner.Listed.{Lists}
 
 abbrev from_blank : List ℕ → List ℕ
 from_blank text = without_leading (λ c. not (is_blank c)) text

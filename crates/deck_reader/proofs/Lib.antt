@@ -1,2 +1,0 @@
-pub mod CardWords
-pub mod Following
