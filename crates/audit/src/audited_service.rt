@@ -57,6 +57,10 @@ impl<S: Sink> Service for AuditedService<'_, '_, S> {
         }
         ask_heeded(self.service, request, self.kept, self.audit)
     }
+
+    fn is_late(&self) -> bool {
+        self.audit.is_late()
+    }
 }
 
 // Answers a request, and puts its line, of words that are kept where it is like one before. It stays a

@@ -45,4 +45,9 @@ pub trait Service {
     {
         self.ask(&request)
     }
+
+    /// Whether the program is to be broken off, as where a growth is refused. It is asked now and then.
+    fn is_late(&self) -> bool {
+        false
+    }
 }

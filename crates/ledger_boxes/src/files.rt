@@ -3,17 +3,22 @@
 use crate::boxes::Boxes;
 use crate::glimpse::Glimpse;
 use crate::look::{BoxLook, Entry, Kind, Look};
+use crate::patience::Patience;
 use crate::record::Record;
 use ledger_disk::{DiskError, System};
 use std::alloc::AllocError;
-use std::fs::{self, DirEntry, File, FileType, Metadata, OpenFile, ReadDir};
-use std::io::{self, ErrorKind, Read};
+use std::fs::{self, DirEntry, FileType, Metadata, ReadDir};
+use std::io::{self, ErrorKind};
 use std::os::unix::fs::MetadataExt;
+use std::time::Clock;
 
 // Of a folder's mode: others may write there; only its owner may take a name out of it.
 const OPEN: u32 = 0o002;
 
 const STICKY: u32 = 0o1000;
+
+// A name that is no text is met as this one, which is hidden, and which no folder lists.
+const STRANGE: &[u8] = b".";
 
 /// A box whose names are met one by one: they are read in pieces, and not gathered.
 #[derive(Drop)]
@@ -24,17 +29,20 @@ struct Listing<R: System> {
 
 /// The boxes of a site, and what was claimed.
 #[derive(Drop)]
-pub struct FileBoxes<R: System> {
+pub struct FileBoxes<R: System + Clock> {
     rt: R,
     // The boxes by their places, each by its path.
     boxes: Vec<String>,
     // What was claimed, by its number and its path.
     claimed: Vec<(u64, String)>,
     listing: Option<Listing<R>>,
+    // The places of boxes in which a name was met that is no text.
+    strange: Vec<usize>,
+    patience: Patience,
     saw: Record,
 }
 
-impl<R: System> FileBoxes<R> {
+impl<R: System + Clock> FileBoxes<R> {
     ghost use Rattle.std.specs.Prelude.{◌≡◌, []};
 
     /// No box is known, and no claimed file.
@@ -43,11 +51,15 @@ impl<R: System> FileBoxes<R> {
     {
         let boxes = Vec::new(rt.alloc());
         let claimed = Vec::new(rt.alloc());
+        let strange = Vec::new(rt.alloc());
+        let patience = Patience::new(rt.alloc());
         FileBoxes {
             rt,
             boxes,
             claimed,
             listing: None,
+            strange,
+            patience,
             saw: Record::new(),
         }
     }
@@ -76,6 +88,11 @@ impl<R: System> FileBoxes<R> {
         Ok(())
     }
 
+    /// Whether a name was met in the box of this place that is no text, and so was passed over.
+    pub fn has_strange(&self, place: usize) -> bool {
+        self.strange.contains(&place)
+    }
+
     /// What the box of this place is; a link is not followed.
     ///
     /// # Errors
@@ -89,11 +106,16 @@ impl<R: System> FileBoxes<R> {
     }
 }
 
-impl<R: System> Boxes for FileBoxes<R> {
+impl<R: System + Clock> Boxes for FileBoxes<R> {
     ghost seen = { λ boxes. boxes.saw.sights };
 
     fn next_entry(&mut self, place: usize) -> Result<Option<Entry>, DiskError> {
         let found = next_of(&self.rt, self.boxes.get(place), &mut self.listing, place)?;
+        if matches!(&found, Some(entry) if entry.name.as_slice() == STRANGE)
+            && !self.has_strange(place)
+        {
+            self.strange.push(place)?;
+        }
         match &found {
             Some(entry) => self
                 .saw
@@ -117,7 +139,11 @@ impl<R: System> Boxes for FileBoxes<R> {
 
     // Whatever hinders it is its user's doing, but for want of memory.
     fn bytes(&mut self, number: u64, most: u64) -> Result<Option<Vec<u8>>, DiskError> {
-        let found = match read_same(&self.rt, path_of(&self.claimed, number), most) {
+        let read = match path_of(&self.claimed, number) {
+            Some(path) => self.patience.read(&self.rt, path.as_str(), most),
+            None => Ok(None),
+        };
+        let found = match read {
             Ok(found) => found,
             Err(error) if error.kind() == ErrorKind::OutOfMemory => return Err(DiskError::Memory),
             Err(_) => None,
@@ -155,7 +181,6 @@ fn next_of<R: System>(
     Ok(found)
 }
 
-// A name that is no text is met as a hidden one.
 fn next_name<R: System>(rt: &R, names: &mut ReadDir<R>) -> io::Result<Option<Entry>> {
     let (name, kind) = match names.next() {
         None => return Ok(None),
@@ -164,7 +189,7 @@ fn next_name<R: System>(rt: &R, names: &mut ReadDir<R>) -> io::Result<Option<Ent
             (name, kind_under(&entry))
         }
         Some(Err(error)) if error.kind() == ErrorKind::InvalidFilename => {
-            (Vec::from_slice(rt.alloc(), b".")?, Kind::Other)
+            (Vec::from_slice(rt.alloc(), STRANGE)?, Kind::Other)
         }
         Some(Err(error)) => return Err(error),
     };
@@ -224,23 +249,4 @@ fn box_look_of(seen: &Metadata) -> BoxLook {
         is_open: seen.mode() & OPEN != 0,
         is_sticky: seen.mode() & STICKY != 0,
     }
-}
-
-// The bytes of the file that stands there, unless another one is opened than was seen.
-fn read_same<R: System>(rt: &R, path: Option<&String>, most: u64) -> io::Result<Option<Vec<u8>>> {
-    let Some(path) = path else {
-        return Ok(None);
-    };
-    let seen = fs::symlink_metadata(rt, path.as_str())?;
-    if !seen.is_file() {
-        return Ok(None);
-    }
-    let mut file = File::open(rt, path.as_str())?;
-    let held = file.metadata()?;
-    if held.dev() != seen.dev() || held.ino() != seen.ino() {
-        return Ok(None);
-    }
-    let mut bytes = Vec::new(rt.alloc());
-    file.take(most.saturating_add(1)).read_to_end(&mut bytes)?;
-    Ok(Some(bytes))
 }

@@ -10,6 +10,7 @@ pub mod laws;
 pub mod listing;
 pub mod look;
 pub mod none;
+mod patience;
 mod record;
 pub mod serving;
 pub mod taking;

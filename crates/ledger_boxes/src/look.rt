@@ -44,7 +44,7 @@ pub enum BoxFault {
     Missing,
     /// It is no folder.
     NoFolder,
-    /// It is neither its user's nor the operator's.
+    /// It is not the operator's; nor, where that is root, its user's.
     NotOwn,
     /// Others may write there.
     Open,

@@ -1,7 +1,7 @@
 //! Which boxes are served.
 ghost use Rattle.std.specs.Prelude.{◌≡◌};
 ghost use Rattle.ledger_boxes.specs.Sights.{is_file, is_folder};
-ghost use Rattle.ledger_boxes.specs.Serving.{fault_in, box_fault};
+ghost use Rattle.ledger_boxes.specs.Serving.{may_own, fault_in, box_fault};
 
 use crate::look::{BoxFault, BoxLook, Kind};
 
@@ -15,12 +15,19 @@ pub fn box_fault(operator: u64, uid: u64, look: Option<BoxLook>) -> Option<BoxFa
     }
 }
 
+// Root opens any folder; whoever else is to look after a box has to own it.
+fn may_own(operator: u64, uid: u64, owner: u64) -> bool
+    ensures { result ≡ may_own operator uid owner }
+{
+    owner == operator || (operator == 0 && owner == uid)
+}
+
 fn fault_in(operator: u64, uid: u64, look: BoxLook) -> Option<BoxFault>
     ensures { result ≡ fault_in operator uid look }
 {
     if !is_folder(look.kind) {
         Some(BoxFault::NoFolder)
-    } else if !(look.owner == uid || look.owner == operator) {
+    } else if !may_own(operator, uid, look.owner) {
         Some(BoxFault::NotOwn)
     } else if look.is_open {
         Some(BoxFault::Open)

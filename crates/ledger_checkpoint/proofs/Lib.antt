@@ -1,4 +1,4 @@
 mod Standing
-mod Restricted
 mod Taken
-mod Opened
+mod Picked
+mod Leading

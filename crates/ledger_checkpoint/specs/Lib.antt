@@ -1,5 +1,5 @@
 pub mod Checkpoints
 pub mod Picking
+pub mod Taking
 pub mod Writing
 pub mod Laws
-pub mod inner

@@ -1,17 +1,14 @@
-//! Checkpoints: a site's state behind so many commits, as an index and the lines of its data sets. A run reads the index, and the lines of
-//! those data sets that it needs.
+//! Checkpoints: a site's state behind so many commits, as an index and a piece for each data set. A run reads the index, and the pieces of
+//! those data sets that it needs: each is a change that the site's machine takes.
 #![tactic(auto)]
 
+pub mod applying;
 pub mod laws;
-mod loading;
 pub mod picking;
-pub mod reading;
 pub mod source;
-pub mod state;
 pub mod writing;
 
+pub use applying::{take_rest, take_sets};
 pub use picking::pick_entries;
-pub use reading::read_sets;
 pub use source::{MemorySource, Source};
-pub use state::state_behind;
 pub use writing::{Behind, Checkpoint, write_checkpoint};

@@ -1,9 +1,9 @@
-//! Where the lines of a checkpoint are read from.
+//! Where the pieces of a checkpoint are read from.
 ghost use Rattle.std.specs.Prelude.{◌≡◌, take, drop, IfOk, IfSome};
 
 use std::alloc::{AllocError, Global};
 
-/// What gives the lines of a checkpoint, a piece at a time. It is not trusted: each piece is held against its digest.
+/// What gives the pieces of a checkpoint. It is not trusted: each piece is held against its digest.
 pub trait Source {
     /// So many bytes behind so many; none where they can't be read.
     ///
@@ -18,27 +18,27 @@ pub trait Source {
     ) -> Result<Option<Vec<u8>>, AllocError>;
 }
 
-/// The lines in memory.
+/// The pieces in memory.
 #[derive(Clone, Copy)]
 pub struct MemorySource<'a> {
     /// All of them.
-    pub lines: &'a [u8],
+    pub pieces: &'a [u8],
 }
 
 #[tactic(auto, using(crate::proofs::Taken::piece_there))]
 fn piece_of(
     alloc: Global,
-    lines: &[u8],
+    pieces: &[u8],
     place: u64,
     size: u64,
 ) -> Result<Option<Vec<u8>>, AllocError>
-    ensures { IfOk result (λ found. IfSome found (λ piece. piece.items ≡ take size (drop place lines.now))) }
+    ensures { IfOk result (λ found. IfSome found (λ piece. piece.items ≡ take size (drop place pieces.now))) }
 {
-    let length = lines.len() as u64;
+    let length = pieces.len() as u64;
     if place > length || size > length - place {
         return Ok(None);
     }
-    let rest = &lines[place as usize..];
+    let rest = &pieces[place as usize..];
     let piece = rest[..size as usize].to_vec(alloc)?;
     Ok(Some(piece))
 }
@@ -50,6 +50,6 @@ impl<'a> Source for MemorySource<'a> {
         place: u64,
         size: u64,
     ) -> Result<Option<Vec<u8>>, AllocError> {
-        piece_of(alloc, self.lines, place, size)
+        piece_of(alloc, self.pieces, place, size)
     }
 }

@@ -1,17 +1,16 @@
-//! A checkpoint is written: its index, and its lines.
+//! A checkpoint is written: its index, and its pieces.
 ghost use Rattle.std.specs.Prelude.{◌≡◌, ◌<◌, ◌+◌, ◌++◌, ◌∷◌, [], length, drop, IfOk, OnOk};
-ghost use Rattle.mon_catalogue.specs.Text.{text_of};
 ghost use Rattle.ledger_text.specs.Text.{commit_text};
 ghost use Rattle.ledger_index.specs.Index.{entry_text};
 ghost use Rattle.ledger_sets.specs.Seeing.{site_of};
-ghost use Rattle.ledger_checkpoint.specs.Checkpoints.{entry_at, entries_from, lines_text, IsCheckpoint};
+ghost use Rattle.ledger_checkpoint.specs.Checkpoints.{piece_of, entry_at, entries_from, pieces_text, IsCheckpoint};
 ghost use Rattle.ledger_checkpoint.specs.Writing.{texts_in, entry_texts};
 
 use acl_text::put_short;
 use ledger_index::{Entry, Head, Span, entry_text, index_text};
-use ledger_sets::{State, Tables};
+use ledger_sets::{State, Tables, whole_change};
 use ledger_text::{commit_text, digest};
-use mon_catalogue::{Catalogue, DataSet, Records};
+use mon_catalogue::{Catalogue, DataSet};
 use mon_text::Name;
 use std::alloc::{AllocError, Global};
 
@@ -31,8 +30,8 @@ pub struct Behind<'a> {
 pub struct Checkpoint {
     /// Its index.
     pub index: Vec<u8>,
-    /// The lines of all data sets, one behind the other.
-    pub lines: Vec<u8>,
+    /// The pieces of all data sets, one behind the other.
+    pub pieces: Vec<u8>,
 }
 
 /// The checkpoint of a state behind so many commits.
@@ -45,11 +44,11 @@ pub fn write_checkpoint(
     behind: Behind<'_>,
     state: &State,
 ) -> Result<Checkpoint, AllocError>
-    ensures { IfOk result (λ made. IsCheckpoint made.index.items made.lines.items behind.entry.count behind.entry.last.now behind.entry.course.now
+    ensures { IfOk result (λ made. IsCheckpoint made.index.items made.pieces.items behind.entry.count behind.entry.last.now behind.entry.course.now
         (site_of state.now)) }
 {
-    let mut lines = Vec::new(alloc);
-    let entries = put_sets(alloc, &state.catalogue, &mut lines)?;
+    let mut pieces = Vec::new(alloc);
+    let entries = put_sets(alloc, &state.catalogue, &mut pieces)?;
     let tables = tables_text(alloc, &state.tables)?;
     let head = Head {
         count: behind.count,
@@ -59,7 +58,7 @@ pub fn write_checkpoint(
         tables: tables.as_slice(),
     };
     let index = index_text(alloc, head, &entries)?;
-    Ok(Checkpoint { index, lines })
+    Ok(Checkpoint { index, pieces })
 }
 
 fn tables_text(alloc: Global, tables: &Tables) -> Result<Vec<u8>, AllocError>
@@ -76,20 +75,20 @@ fn tables_text(alloc: Global, tables: &Tables) -> Result<Vec<u8>, AllocError>
     )
 }
 
-// Puts the lines of all data sets; what the index says of each.
-#[tactic(auto, using(crate::proofs::Standing::no_lines, crate::proofs::Standing::no_entries))]
+// Puts the pieces of all data sets; what the index says of each.
+#[tactic(auto, using(crate::proofs::Standing::no_pieces, crate::proofs::Standing::no_entries))]
 fn put_sets(
     alloc: Global,
     sets: &Catalogue,
-    lines: &mut Vec<u8>,
+    pieces: &mut Vec<u8>,
 ) -> Result<Vec<Vec<u8>>, AllocError>
-    requires { lines.old.items ≡ [] }
+    requires { pieces.old.items ≡ [] }
     ensures entries { IfOk result (λ entries. texts_in entries.items ≡ entry_texts (entries_from 0 sets.now)) }
-    ensures lines { OnOk result (lines.new.items ≡ lines_text sets.now) }
+    ensures pieces { OnOk result (pieces.new.items ≡ pieces_text sets.now) }
 {
     let mut entries = Vec::new(alloc);
     for place in 0..sets.len() {
-        put_at(alloc, sets, place, lines, &mut entries)?;
+        put_at(alloc, sets, place, pieces, &mut entries)?;
     }
     Ok(entries)
 }
@@ -98,38 +97,38 @@ fn put_at(
     alloc: Global,
     sets: &Catalogue,
     place: usize,
-    lines: &mut Vec<u8>,
+    pieces: &mut Vec<u8>,
     entries: &mut Vec<Vec<u8>>,
 ) -> Result<(), AllocError>
     requires { place < length sets.now }
-    ensures entries { OnOk result (texts_in entries.new.items ++ entry_texts (entries_from (length lines.new.items) (drop (place + 1) sets.now))
-        ≡ texts_in entries.old.items ++ entry_texts (entries_from (length lines.old.items) (drop place sets.now))) }
-    ensures lines { OnOk result (lines.new.items ++ lines_text (drop (place + 1) sets.now) ≡ lines.old.items ++ lines_text (drop place sets.now)) }
+    ensures entries { OnOk result (texts_in entries.new.items ++ entry_texts (entries_from (length pieces.new.items) (drop (place + 1) sets.now))
+        ≡ texts_in entries.old.items ++ entry_texts (entries_from (length pieces.old.items) (drop place sets.now))) }
+    ensures pieces { OnOk result (pieces.new.items ++ pieces_text (drop (place + 1) sets.now) ≡ pieces.old.items ++ pieces_text (drop place sets.now)) }
 {
     match sets.at(place) {
         Some((name, set)) => {
-            put_set(alloc, name, set, lines, entries)?;
+            put_set(alloc, name, set, pieces, entries)?;
             Ok(())
         }
         None => Ok(()),
     }
 }
 
-// Puts the lines of a data set, and what the index says of it.
+// Puts the piece of a data set, and what the index says of it.
 fn put_set(
     alloc: Global,
     name: &Name,
     set: &DataSet,
-    lines: &mut Vec<u8>,
+    pieces: &mut Vec<u8>,
     entries: &mut Vec<Vec<u8>>,
 ) -> Result<(), AllocError>
     ensures entries { OnOk result (texts_in entries.new.items
-        ≡ texts_in entries.old.items ++ entry_text (entry_at (length lines.old.items) (name.now, set.now)) ∷ []) }
-    ensures lines { OnOk result (lines.new.items ≡ lines.old.items ++ text_of set.now.records) }
+        ≡ texts_in entries.old.items ++ entry_text (entry_at (length pieces.old.items) (name.now, set.now)) ∷ []) }
+    ensures pieces { OnOk result (pieces.new.items ≡ pieces.old.items ++ piece_of (name.now, set.now)) }
 {
-    let text = records_text(alloc, &set.records)?;
-    let entry = set_entry(alloc, name, set, lines.len() as u64, &text)?;
-    lines.extend_from_slice(&text)?;
+    let piece = whole_change(alloc, name, set)?;
+    let entry = set_entry(alloc, name, set, pieces.len() as u64, &piece)?;
+    pieces.extend_from_slice(&piece)?;
     entries.push(entry)?;
     Ok(())
 }
@@ -139,18 +138,18 @@ fn set_entry(
     name: &Name,
     set: &DataSet,
     place: u64,
-    text: &[u8],
+    piece: &[u8],
 ) -> Result<Vec<u8>, AllocError>
-    requires { text.now ≡ text_of set.now.records }
+    requires { piece.now ≡ piece_of (name.now, set.now) }
     ensures { IfOk result (λ entry. entry.items ≡ entry_text (entry_at place (name.now, set.now))) }
 {
     let mut list = Vec::new(alloc);
     put_short(&set.acl, &mut list)?;
-    let sum = digest(alloc, text)?;
+    let sum = digest(alloc, piece)?;
     let span = Span {
         count: set.records.len(),
         place,
-        size: text.len() as u64,
+        size: piece.len() as u64,
     };
     entry_text(
         alloc,
@@ -164,23 +163,4 @@ fn set_entry(
             digest: sum.as_slice(),
         },
     )
-}
-
-// The records of a data set, each ended by LF.
-fn records_text(alloc: Global, records: &Records) -> Result<Vec<u8>, AllocError>
-    ensures { IfOk result (λ text. text.items ≡ text_of records.now) }
-{
-    let mut text = Vec::new(alloc);
-    for index in 0..records.len() {
-        put_record(records.at(index), &mut text)?;
-    }
-    Ok(text)
-}
-
-fn put_record(line: &[u8], out: &mut Vec<u8>) -> Result<(), AllocError>
-    ensures { OnOk result (out.new.items ≡ out.old.items ++ (line.now ++ 10 ∷ [])) }
-{
-    out.extend_from_slice(line)?;
-    out.push(b'\n')?;
-    Ok(())
 }

@@ -1,18 +1,21 @@
 //! The disk of a site: that of the ledger over the system's files, where each claimed file gets the name that says whose it is, and each
-//! answer is for its user before it takes its place. What is said of `ledger_disk`'s files holds of this one too: it is to be read.
+//! answer is for its user before it takes its place; and what leaves a box is the file that was claimed, also where its user puts another
+//! one under its name meanwhile. What is said of `ledger_disk`'s files holds of this one too: it is to be read.
 use crate::place::{Host, joined, remove_if_there, write_new};
 use ledger_disk::{Disk, DiskError, FileDisk, Folder, Identity, Name};
 use ledger_run::{Claim, claimed_name};
 use std::alloc::AllocError;
 use std::fs;
 use std::io::{self, ErrorKind};
-use std::os::unix::fs::lchown;
+use std::os::unix::fs::{MetadataExt, lchown};
 
-// A file in a box: whose it is, and its name.
+// A file in a box: whose it is, its name and its path, and which file it was when it was looked at or claimed.
 #[derive(Drop)]
 struct Dropped {
     account: Vec<u8>,
     name: Vec<u8>,
+    path: String,
+    seen: Option<Identity>,
 }
 
 // Who is to read an answer, and the folder where it stands.
@@ -30,6 +33,8 @@ pub struct SiteDisk<R: Host> {
     files: FileDisk<R>,
     // Where an answer is written.
     draft: String,
+    // Where claimed files stand.
+    taken: String,
     // Who runs the program.
     runner: u32,
     dropped: Vec<Dropped>,
@@ -47,12 +52,14 @@ impl<R: Host> SiteDisk<R> {
     {
         let alloc = rt.alloc();
         let draft = joined(alloc, top, "keep/draft/answer")?;
+        let taken = joined(alloc, top, "keep/taken")?;
         let own = String::from_str(alloc, top)?;
         let files = FileDisk::new(rt.clone()?, own);
         Ok(SiteDisk {
             rt,
             files,
             draft,
+            taken,
             runner,
             dropped: Vec::new(alloc),
             readers: Vec::new(alloc),
@@ -72,8 +79,14 @@ impl<R: Host> SiteDisk<R> {
         let alloc = self.rt.alloc();
         let account = account.to_vec(alloc)?;
         let own = name.as_bytes().to_vec(alloc)?;
+        let path = joined(alloc, &folder, name)?;
         let place = self.files.add_dropped(folder, name)?;
-        self.dropped.push(Dropped { account, name: own })?;
+        self.dropped.push(Dropped {
+            account,
+            name: own,
+            path,
+            seen: None,
+        })?;
         Ok(place)
     }
 
@@ -141,6 +154,46 @@ impl<R: Host> SiteDisk<R> {
         }
     }
 
+    // The file of this place was this one.
+    fn note_seen(&mut self, place: u64, seen: Identity)
+        ensures { self.new.files.made.calls ≡ self.old.files.made.calls }
+    {
+        if let Some(one) = self.dropped.get_mut(place as usize) {
+            one.seen = Some(seen);
+        }
+    }
+
+    // The file of this place was the one that has this number now.
+    fn note_claimed(&mut self, place: u64, number: u64)
+        ensures { self.new.files.made.calls ≡ self.old.files.made.calls }
+    {
+        if let Ok(seen) = self.identity_claimed(place, number) {
+            self.note_seen(place, seen);
+        }
+    }
+
+    fn identity_claimed(&self, place: u64, number: u64) -> io::Result<Identity> {
+        let bytes = self.name_of(place, number)?;
+        match std::str::from_utf8(&bytes) {
+            Ok(name) => {
+                let path = joined(self.rt.alloc(), &self.taken, name)?;
+                identity_at(&self.rt, &path)
+            }
+            Err(_) => Err(ErrorKind::InvalidFilename.into()),
+        }
+    }
+
+    // Whether another file has the name of this place by now.
+    fn has_another(&self, place: u64) -> bool {
+        let Some(one) = self.dropped.get(place as usize) else {
+            return false;
+        };
+        match (one.seen, identity_at(&self.rt, &one.path)) {
+            (Some(seen), Ok(now)) => seen.device != now.device || seen.inode != now.inode,
+            _ => false,
+        }
+    }
+
     // What was written as an answer is for its user from here on.
     fn give_draft(&self, number: u64) -> io::Result<()> {
         match self.reader_of(number) {
@@ -182,7 +235,11 @@ impl<R: Host> Disk for SiteDisk<R> {
     }
 
     fn look(&mut self, name: Name) -> Result<Option<Identity>, DiskError> {
-        self.files.look(name)
+        let found = self.files.look(name)?;
+        if let (Name::Dropped(place), Some(seen)) = (name, found) {
+            self.note_seen(place, seen);
+        }
+        Ok(found)
     }
 
     fn next_claimed(&mut self, from: u64) -> Result<Option<u64>, DiskError> {
@@ -208,14 +265,31 @@ impl<R: Host> Disk for SiteDisk<R> {
         if let (Name::Dropped(place), Name::Claimed(number)) = (from, to) {
             self.name_claimed(place, number)?;
         }
-        self.files.link(from, to)
+        self.files.link(from, to)?;
+        if let (Name::Dropped(place), Name::Claimed(number)) = (from, to) {
+            self.note_claimed(place, number);
+        }
+        Ok(())
     }
 
     fn remove(&mut self, name: Name) -> Result<(), DiskError> {
+        if let Name::Dropped(place) = name {
+            if self.has_another(place) {
+                return Err(DiskError::Failed);
+            }
+        }
         self.files.remove(name)
     }
 
     fn sync_folder(&mut self, folder: Folder) -> Result<(), DiskError> {
         self.files.sync_folder(folder)
     }
+}
+
+fn identity_at<R: Host>(rt: &R, path: &str) -> io::Result<Identity> {
+    let seen = fs::symlink_metadata(rt, path)?;
+    Ok(Identity {
+        device: seen.dev(),
+        inode: seen.ino(),
+    })
 }

@@ -121,7 +121,8 @@ fn box_words(fault: BoxFault) -> &'static str {
     match fault {
         BoxFault::Missing => "is missing: the box is passed over",
         BoxFault::NoFolder => "is no folder: the box is passed over",
-        BoxFault::NotOwn => "is neither its user's nor the operator's: the box is passed over",
+        BoxFault::NotOwn =>
+            "is not the operator's (nor its user's, where that is root): the box is passed over",
         BoxFault::Open => "may be written by others: the box is passed over",
         BoxFault::Sticky => "lets the operator take nothing out: the box is passed over",
     }

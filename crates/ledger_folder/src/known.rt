@@ -171,9 +171,16 @@ pub fn held_files<R: Host>(
     let mut left = Vec::new(place.alloc());
     for name in names {
         let held = held_under(place, owners, &name)?;
+        if has_number(&left, held.number) {
+            return Err(place.wrong("keep/taken", Wrong::Words("has two files of one number")));
+        }
         put_in_order(&mut left, held)?;
     }
     Ok(left)
+}
+
+fn has_number(all: &[Held], number: u64) -> bool {
+    all.iter().any(|held| held.number == number)
 }
 
 fn held_under<R: Host>(place: &Place<R>, owners: &[Owner], name: &str) -> Result<Held, Fault> {

@@ -9,10 +9,13 @@ use std::io::{self, ErrorKind, Write};
 use std::os::unix::fs::{DirBuilderExt, MetadataExt, OpenOptionsExt, PermissionsExt, lchown};
 use std::time::{Clock, SystemTime, UNIX_EPOCH};
 
-/// What the program asks of the system.
-pub trait Host: ledger_disk::System + Clock {}
+/// How often a file is tried to be made that others may be making too.
+const OWNER_ATTEMPTS: u64 = 100;
 
-impl<R: ledger_disk::System + Clock> Host for R {}
+/// What the program asks of the system.
+pub trait Host: ledger_disk::System + Clock + Eprint {}
+
+impl<R: ledger_disk::System + Clock + Eprint> Host for R {}
 
 /// The folder of a site.
 #[derive(Drop)]
@@ -183,12 +186,19 @@ fn make_with_mode<R: Host>(rt: &R, path: &str, mode: u32) -> io::Result<()> {
     fs::set_permissions(rt, path, Permissions::from_mode(mode))
 }
 
-// The owner of a file that is made for it, and removed.
+// The owner of a file that is made for it, and removed. Where others ask at the same time, they may remove it first, or make theirs.
 fn uid_of_new<R: Host>(rt: &R, path: &str) -> io::Result<u32> {
-    remove_if_there(rt, path)?;
-    let uid = uid_of_created(rt, path)?;
-    fs::remove_file(rt, path)?;
-    Ok(uid)
+    for _ in 0..OWNER_ATTEMPTS {
+        remove_if_there(rt, path)?;
+        match uid_of_created(rt, path) {
+            Err(error) if error.kind() == ErrorKind::AlreadyExists => {}
+            made => {
+                remove_if_there(rt, path)?;
+                return made;
+            }
+        }
+    }
+    Err(io::Error::from(ErrorKind::AlreadyExists))
 }
 
 fn uid_of_created<R: Host>(rt: &R, path: &str) -> io::Result<u32> {

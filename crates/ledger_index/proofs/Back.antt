@@ -1,10 +1,10 @@
 -- What is printed of an index is read as itself.
 use Rattle.std.proofs.Common.{◌≡◌, ℕ, ◌<◌, ◌^◌, List, [], ◌∷◌, map, Option, Some, None, option_map, refl, ap, ◌∙◌, arith}
 use Rattle.std.specs.{Prelude.{decimal, codes}, Option.{option_and_then}, List.{AllByRecursion}}
-use Rattle.ledger_text.specs.{Text.{ReadsBack as TextsReadBack, AreShort}, Records.{Said, Gone, count_of, short_of, numbers_of, timed, ReadsRecords}}
-use Rattle.ledger_index.specs.{declared.index.Span.{Span}, Laws.{IsSmallEntry, ReadsBack}, Course.{IsSmallNumbered, IsSmallList, CourseReadsBack}}
+use Rattle.ledger_text.specs.{Text.{ReadsBack as TextsReadBack, AreShort}, Records.{Said, Gone, fields_of, count_of, short_of, numbers_of, timed, ReadsRecords}}
+use Rattle.ledger_index.specs.{declared.index.Span.{Span}, Laws.{IsSmallEntry, ReadsBack}, Course.{Kept, IsSmallKept, IsSmallList, CourseReadsBack}}
 use Rattle.ledger_index.specs.Index.{Entry, Head, entry_fields, entry_text, head_fields, head_text, index_fields, span_of, span_in, entry_with, entry_in, entry_of, and_entries, entries_of, head_with, head_in, head_of, with_entries, index_in}
-use Rattle.ledger_index.specs.Course.{numbered_text, list_text, course_fields, numbered_as, numbered_in, numbered_of, and_list, list_in, list_of, course_with, course_in}
+use Rattle.ledger_index.specs.Course.{said_kept, kept_text, list_text, course_fields, kept_at, kept_in, kept_of, and_list, list_in, list_of, course_with, course_in}
 
 module _ (texts_back : TextsReadBack) (reads_records : ReadsRecords) where
   number_back : (n : ℕ) → n < 2 ^ 63 → count_of (decimal n) ≡ Some n
@@ -53,24 +53,24 @@ module _ (texts_back : TextsReadBack) (reads_records : ReadsRecords) where
 
   -- ---- what waits and is owed
 
-  numbered_back : (one : ℕ × List ℕ) → IsSmallNumbered one → numbered_of (numbered_text one) ≡ Some one
-  numbered_back one small =
-      ap (option_and_then numbered_in) (texts_back (decimal one.0 ∷ one.1 ∷ []) small.fields)
-      ∙ ap (option_map (numbered_as one.1)) (number_back one.0 small.number)
+  kept_back : (one : Kept) → IsSmallKept one → kept_of (kept_text one) ≡ Some one
+  kept_back one small =
+      ap (option_and_then kept_in) (texts_back (fields_of 0 (said_kept one)) small.fields)
+      ∙ ap (option_and_then kept_at) (reads_records 0 (said_kept one) (omega arith) (small.number, (small.uid, tt)))
 
-  all_back : (list : List (ℕ × List ℕ)) → AllByRecursion IsSmallNumbered list → list_in (map numbered_text list) ≡ Some list
+  all_back : (list : List Kept) → AllByRecursion IsSmallKept list → list_in (map kept_text list) ≡ Some list
   all_back [] small = refl
   all_back (one ∷ list) small =
-      ap (option_and_then (and_list (list_in (map numbered_text list)))) (numbered_back one small.0)
-      ∙ ap (λ (more : Option (List (ℕ × List ℕ))). and_list more one) (all_back list small.1)
+      ap (option_and_then (and_list (list_in (map kept_text list)))) (kept_back one small.0)
+      ∙ ap (λ (more : Option (List Kept)). and_list more one) (all_back list small.1)
 
-  list_back : (list : List (ℕ × List ℕ)) → IsSmallList list → list_of (list_text list) ≡ Some list
-  list_back list small = ap (option_and_then list_in) (texts_back (map numbered_text list) small.fields) ∙ all_back list small.each
+  list_back : (list : List Kept) → IsSmallList list → list_of (list_text list) ≡ Some list
+  list_back list small = ap (option_and_then list_in) (texts_back (map kept_text list) small.fields) ∙ all_back list small.each
 
   pub course_back : CourseReadsBack
   course_back course small =
       ap (option_and_then course_in) (texts_back (course_fields course) small.fields)
-      ∙ ap (option_and_then (λ (next : ℕ). option_and_then (λ (waiting : List (ℕ × List ℕ)). option_map (course_with next waiting) (list_of (list_text course.owed))) (list_of (list_text course.waiting))))
+      ∙ ap (option_and_then (λ (next : ℕ). option_and_then (λ (waiting : List Kept). option_map (course_with next waiting) (list_of (list_text course.owed))) (list_of (list_text course.waiting))))
       (number_back course.next small.next)
-      ∙ ap (option_and_then (λ (waiting : List (ℕ × List ℕ)). option_map (course_with course.next waiting) (list_of (list_text course.owed)))) (list_back course.waiting small.waiting)
+      ∙ ap (option_and_then (λ (waiting : List Kept). option_map (course_with course.next waiting) (list_of (list_text course.owed)))) (list_back course.waiting small.waiting)
       ∙ ap (option_map (course_with course.next course.waiting)) (list_back course.owed small.owed)

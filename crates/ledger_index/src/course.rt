@@ -1,19 +1,20 @@
 //! The texts that wait and the answers that are owed, as a text of a checkpoint's index.
 ghost use Rattle.std.specs.Prelude.{◌≡◌, map, option_map, IfOk};
 ghost use Rattle.ledger_text.specs.Text.{commit_text};
-ghost use Rattle.ledger_index.specs.Course.{seen_numbered, seen_list, seen_course, numbered_text, list_text, course_text};
-ghost use Rattle.ledger_index.specs.Course.{numbered_in, numbered_of, list_in, list_of, course_in, course_of};
+ghost use Rattle.ledger_text.specs.Records.{seen as said_by};
+ghost use Rattle.ledger_index.specs.Course.{seen_kept, seen_list, seen_course, kept_text, list_text, course_text};
+ghost use Rattle.ledger_index.specs.Course.{kept_said, kept_of, list_in, list_of, course_in, course_of};
 
 use crate::reading::read_number;
 use itoa::Buffer;
-use ledger_text::{commit_text, read_commit};
+use ledger_text::{Claimed, Record, commit_text, read_commit, read_record, record_text};
 use std::alloc::{AllocError, Global};
 
-/// A text or an answer, with its number.
+/// A text or an answer, with its number and whose it is.
 #[derive(Clone, Copy)]
-pub struct Numbered<'a> {
-    /// The number.
-    pub number: u64,
+pub struct Kept<'a> {
+    /// Whose it is: the file that was taken.
+    pub file: Claimed<'a>,
     /// The text.
     pub text: &'a [u8],
 }
@@ -24,31 +25,30 @@ pub struct Course<'a> {
     /// No text has this number or a later one.
     pub next: u64,
     /// The texts that wait, the first of them first.
-    pub waiting: Vec<Numbered<'a>>,
+    pub waiting: Vec<Kept<'a>>,
     /// The answers that are not yet on the disk for good.
-    pub owed: Vec<Numbered<'a>>,
+    pub owed: Vec<Kept<'a>>,
 }
 
-fn numbered_text<'a>(alloc: Global, one: Numbered<'a>) -> Result<Vec<u8>, AllocError>
-    ensures { IfOk result (λ text. text.items ≡ numbered_text (seen_numbered one.entry)) }
+// As the ledger has it of a file that is taken.
+fn kept_text(alloc: Global, one: Kept<'_>) -> Result<Vec<u8>, AllocError>
+    ensures { IfOk result (λ text. text.items ≡ kept_text (seen_kept one.entry)) }
 {
-    let mut digits = Buffer::new();
-    let number = digits.format(one.number).as_bytes();
-    commit_text(alloc, &[number, one.text])
+    record_text(alloc, 0, Record::Took(one.file, one.text))
 }
 
-fn list_texts(alloc: Global, list: &[Numbered<'_>]) -> Result<Vec<Vec<u8>>, AllocError>
-    ensures { IfOk result (λ texts. map (λ text. text.items) texts.items ≡ map numbered_text (seen_list list.now)) }
+fn list_texts(alloc: Global, list: &[Kept<'_>]) -> Result<Vec<Vec<u8>>, AllocError>
+    ensures { IfOk result (λ texts. map (λ text. text.items) texts.items ≡ map kept_text (seen_list list.now)) }
 {
     let mut texts = Vec::new(alloc);
     for one in list {
-        let text = numbered_text(alloc, *one)?;
+        let text = kept_text(alloc, *one)?;
         texts.push(text)?;
     }
     Ok(texts)
 }
 
-fn list_text(alloc: Global, list: &[Numbered<'_>]) -> Result<Vec<u8>, AllocError>
+fn list_text(alloc: Global, list: &[Kept<'_>]) -> Result<Vec<u8>, AllocError>
     ensures { IfOk result (λ text. text.items ≡ list_text (seen_list list.now)) }
 {
     let texts = list_texts(alloc, list)?;
@@ -81,33 +81,33 @@ pub fn course_text(alloc: Global, course: &Course<'_>) -> Result<Vec<u8>, AllocE
     commit_text(alloc, &[next, waiting.as_slice(), owed.as_slice()])
 }
 
-fn numbered_in<'a>(fields: &[&'a [u8]]) -> Option<Numbered<'a>>
-    ensures { option_map seen_numbered result ≡ numbered_in (map (λ field. field.now) fields.now) }
+fn kept_said<'a>(said: Record<'a>) -> Option<Kept<'a>>
+    ensures { option_map seen_kept result ≡ kept_said (said_by said.entry) }
 {
-    match fields {
-        [number, text] => {
-            let number = read_number(number)?;
-            Some(Numbered { number, text })
-        }
+    match said {
+        Record::Took(file, text) => Some(Kept { file, text }),
         _ => None,
     }
 }
 
-fn numbered_of<'a>(alloc: Global, field: &'a [u8]) -> Result<Option<Numbered<'a>>, AllocError>
-    ensures { IfOk result (λ found. option_map seen_numbered found ≡ numbered_of field.now) }
+fn kept_of<'a>(alloc: Global, field: &'a [u8]) -> Result<Option<Kept<'a>>, AllocError>
+    ensures { IfOk result (λ found. option_map seen_kept found ≡ kept_of field.now) }
 {
-    match read_commit(alloc, field)? {
-        Some(fields) => Ok(numbered_in(&fields)),
+    let Some(fields) = read_commit(alloc, field)? else {
+        return Ok(None);
+    };
+    match read_record(&fields) {
+        Some(entry) => Ok(kept_said(entry.record)),
         None => Ok(None),
     }
 }
 
-fn list_in<'a>(alloc: Global, fields: &[&'a [u8]]) -> Result<Option<Vec<Numbered<'a>>>, AllocError>
+fn list_in<'a>(alloc: Global, fields: &[&'a [u8]]) -> Result<Option<Vec<Kept<'a>>>, AllocError>
     ensures { IfOk result (λ found. option_map (λ list. seen_list list.items) found ≡ list_in (map (λ field. field.now) fields.now)) }
 {
     let mut list = Vec::new(alloc);
     for field in fields {
-        match numbered_of(alloc, field)? {
+        match kept_of(alloc, field)? {
             Some(one) => list.push(one)?,
             None => return Ok(None),
         }
@@ -115,7 +115,7 @@ fn list_in<'a>(alloc: Global, fields: &[&'a [u8]]) -> Result<Option<Vec<Numbered
     Ok(Some(list))
 }
 
-fn list_of<'a>(alloc: Global, field: &'a [u8]) -> Result<Option<Vec<Numbered<'a>>>, AllocError>
+fn list_of<'a>(alloc: Global, field: &'a [u8]) -> Result<Option<Vec<Kept<'a>>>, AllocError>
     ensures { IfOk result (λ found. option_map (λ list. seen_list list.items) found ≡ list_of field.now) }
 {
     match read_commit(alloc, field)? {

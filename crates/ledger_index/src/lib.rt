@@ -10,7 +10,7 @@ pub mod opening;
 mod reading;
 pub mod writing;
 
-pub use course::{Course, Numbered, course_text, read_course};
+pub use course::{Course, Kept, course_text, read_course};
 pub use fault::CheckpointFault;
 pub use index::{Entry, Head, Index, Span};
 pub use opening::{Sealed, read_index};

@@ -9,8 +9,8 @@ use Rattle.mon_monitor.specs.Happening.{HappensUnmarked}
 use Rattle.deck_lines.specs.declared.{command.Command.{Command}, turn.Turn.{Turn}}
 use Rattle.deck_syntax.specs.{declared.job.OpenJob.{OpenJob}, Decks.{Asked, Commands, Enters, Gives, Drains}, Jobs.{job_deck_of}}
 use Rattle.deck_syntax.specs.Sections.{Open, Closed, InList, InJob}
-use Rattle.deck_reader.specs.{declared.stream_reader.Event.{Event as Brought}, Events.{event_in, open_after}}
-use Rattle.deck_reader.specs.declared.stream_reader.Event.TheVariants as brought
+use Rattle.deck_syntax.specs.{declared.stream_reader.Event.{Event as Brought}, Events.{event_in, open_after}}
+use Rattle.deck_syntax.specs.declared.stream_reader.Event.TheVariants as brought
 use Rattle.deck_run.specs.Laws.{jobs_in}
 use Rattle.preflight.specs.{declared.why.Why.{Why}, Examined.{Verdict, Admits, Refuses}, inner.Reading.{and_then, all_then, asks_of, why_in, examined}}
 use Rattle.ledger_machine.specs.Running.{HappensTo, AreWhole, Place, place, EndsAt, Reaches, Brings, asked_ahead}

@@ -11,8 +11,8 @@ use Rattle.mon_monitor.specs.Played.{happened, played}
 use Rattle.mon_monitor.specs.Audit.{event_lines, audit_of}
 use Rattle.deck_syntax.specs.Decks.{Asked, Drains}
 use Rattle.deck_syntax.specs.Sections.{Open}
-use Rattle.deck_reader.specs.declared.stream_reader.Event.{Event as Brought}
-use Rattle.deck_reader.specs.Events.{event_in, open_after}
+use Rattle.deck_syntax.specs.declared.stream_reader.Event.{Event as Brought}
+use Rattle.deck_syntax.specs.Events.{event_in, open_after}
 use Rattle.deck_driver.specs.RunStates.{events_of}
 use Rattle.deck_run.specs.Laws.{jobs_in}
 use Rattle.preflight.specs.inner.Reading.{asks_of}

@@ -6,6 +6,7 @@ pub mod laws;
 pub mod machine;
 mod running;
 pub mod site_machine;
+mod watched_audit;
 pub mod watched_machine;
 pub mod watching;
 

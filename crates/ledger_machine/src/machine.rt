@@ -19,6 +19,7 @@ ghost use Rattle.ledger_sets.specs.Laws.{AreSmall};
 ghost use Rattle.mon_catalogue.specs.Stored.{IsStored, ArePrintable};
 
 use crate::running::{Running, play};
+use crate::watched_audit::WatchedAudit;
 use crate::watching::{Unwatched, Watch};
 use deck_syntax::first_line;
 use ledger_run::{LedgerError, Outcome};
@@ -138,12 +139,12 @@ fn run_over<W: Watch>(
     accounts: Accounts,
     state: &State,
     text: &[u8],
-    watch: &mut W,
+    watch: &W,
 ) -> Result<Outcome, LedgerError>
     ensures told { IfOk result (λ outcome. step_asked (site_of state.now) accounts (asked_ahead Closed (lines text.now))
         ≡ (outcome.printout.items, outcome.change.items)) }
     ensures written { OnOk result (IsWrittenAsked (site_of state.now) accounts (asked_ahead Closed (lines text.now))) }
-    ensures within { IfOk result (λ outcome. length outcome.printout.items ≤ W.most watch.old) }
+    ensures within { IfOk result (λ outcome. length outcome.printout.items ≤ W.most watch.now) }
 {
     let alloc = means.alloc;
     let sets = copy_of(&state.catalogue)?;
@@ -189,13 +190,13 @@ fn change_of(
     Ok(change)
 }
 
-// Plays a text, with its audit appended to a text.
+// Plays a text, with its audit appended to a text. What failed when it was late, failed by that.
 fn play_to<W: Watch>(
     running: &mut Running,
     alloc: Global,
     text: &[u8],
     told: &mut Vec<u8>,
-    watch: &mut W,
+    watch: &W,
 ) -> Result<(), LedgerError>
     ensures printed { OnOk result (running.new.out.items ≡ running.old.out.items
         ++ printouts_text (played (asked_events running.old.jobs (asked_ahead Closed (lines text.now))) [] (system_of running.old.monitor)).printouts) }
@@ -204,10 +205,13 @@ fn play_to<W: Watch>(
     ensures told { OnOk result (told.new.items ≡ told.old.items
         ++ audit_of (asked_events running.old.jobs (asked_ahead Closed (lines text.now))) [] (system_of running.old.monitor)) }
     ensures counted { OnOk result (running.old.jobs + jobs_in (asked_ahead Closed (lines text.now)) ≡ running.new.jobs) }
-    ensures within { OnOk result (length running.new.out.items ≤ W.most watch.old) }
+    ensures within { OnOk result (length running.new.out.items ≤ W.most watch.now) }
 {
-    let mut sink = TextSink::new(told);
-    play(running, alloc, text, &mut sink, watch)?;
-    sink.settle()?;
-    Ok(())
+    let sink = TextSink::new(told);
+    let mut audit = WatchedAudit { sink, watch };
+    match play(running, alloc, text, &mut audit, watch) {
+        Ok(()) => Ok(audit.sink.settle()?),
+        Err(_) if watch.is_late() => Err(LedgerError::Late),
+        Err(error) => Err(error),
+    }
 }

@@ -9,14 +9,13 @@ ghost use Rattle.mon_monitor.specs.Played.{played};
 ghost use Rattle.mon_monitor.specs.Audit.{audit_of};
 ghost use Rattle.deck_syntax.specs.Jobs.{job_deck_of};
 ghost use Rattle.deck_syntax.specs.Sections.{Closed};
-ghost use Rattle.deck_reader.specs.Events.{open_in, event_in, open_after};
+ghost use Rattle.deck_syntax.specs.Events.{open_in, event_in, open_after};
 ghost use Rattle.deck_run.specs.Laws.{jobs_in};
 ghost use Rattle.ledger_machine.specs.Running.{HappensTo, asked_events, Brings, asked_ahead};
 
 use crate::events::{drain, enter, give, serve};
 use crate::watching::Watch;
-use deck_reader::{Event, StreamReader};
-use deck_syntax::{OpenJob, first_line};
+use deck_syntax::{Event, OpenJob, StreamReader, first_line};
 use ledger_run::LedgerError;
 use mon_device::Sink;
 use mon_monitor::Monitor;
@@ -36,7 +35,7 @@ pub(crate) fn play<S: Sink, W: Watch>(
     alloc: Global,
     text: &[u8],
     audit: &mut S,
-    watch: &mut W,
+    watch: &W,
 ) -> Result<(), LedgerError>
     ensures printed { OnOk result (running.new.out.items ≡ running.old.out.items
         ++ printouts_text (played (asked_events running.old.jobs (asked_ahead Closed (lines text.now))) [] (system_of running.old.monitor)).printouts) }
@@ -45,7 +44,7 @@ pub(crate) fn play<S: Sink, W: Watch>(
     ensures audited { OnOk result (Puts (S.standing audit.old) (S.standing audit.new)
         (audit_of (asked_events running.old.jobs (asked_ahead Closed (lines text.now))) [] (system_of running.old.monitor))) }
     ensures counted { OnOk result (running.old.jobs + jobs_in (asked_ahead Closed (lines text.now)) ≡ running.new.jobs) }
-    ensures within { OnOk result (length running.new.out.items ≤ W.most watch.old) }
+    ensures within { OnOk result (length running.new.out.items ≤ W.most watch.now) }
 {
     let mut reader = StreamReader::Cards;
     let mut rest = text;

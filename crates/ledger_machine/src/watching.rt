@@ -1,7 +1,7 @@
 //! How long a text may run, and how much it may print. Both are looked at between the events of its run: behind each card, when what the
-//! card asked for is done, and once more behind the last. So a text is broken off late: a card may ask for many turns, the last one for all
-//! jobs' ends, and a turn may take as many statements as a job's own limit has; what was printed until then is in memory. Whatever is
-//! broken off has no effect, as where memory is short: no contract says when a text is late, but that it did nothing then.
+//! card asked for is done, and once more behind the last. The time is looked at while jobs run too, where each 256th statement begins
+//! and behind each 65,536th step of a match: a job that is late ends as where memory is short. What was printed until then is in memory.
+//! Whatever is broken off has no effect: no contract says when a text is late, but that it did nothing then.
 ghost use Rattle.std.specs.Prelude.{◌≡◌, ◌≤◌, ℕ, OnOk};
 
 use ledger_run::LedgerError;
@@ -9,7 +9,7 @@ use ledger_run::LedgerError;
 /// Tells the time.
 pub trait Clock {
     /// So many seconds passed since some moment, which stays the same.
-    fn seconds(&mut self) -> u64;
+    fn seconds(&self) -> u64;
 }
 
 /// Is asked during a text's run whether it may go on.
@@ -26,9 +26,11 @@ pub trait Watch {
     /// # Errors
     ///
     /// Where it may not: it ran too long (`Late`), or printed too much (`Long`).
-    fn look(&mut self, printed: u64) -> Result<(), LedgerError>
-        ensures within { OnOk result (printed ≤ most self.old) }
-        ensures stays { most self.new ≡ most self.old };
+    fn look(&self, printed: u64) -> Result<(), LedgerError>
+        ensures within { OnOk result (printed ≤ most self.now) };
+
+    /// Whether it ran too long.
+    fn is_late(&self) -> bool;
 }
 
 /// What a text's run may take.
@@ -71,15 +73,18 @@ impl<C: Clock + Drop> Watch for Bounded<C> {
         self.begun = self.clock.seconds();
     }
 
-    fn look(&mut self, printed: u64) -> Result<(), LedgerError> {
-        let now = self.clock.seconds();
-        if now.saturating_sub(self.begun) > self.bounds.seconds {
+    fn look(&self, printed: u64) -> Result<(), LedgerError> {
+        if self.is_late() {
             return Err(LedgerError::Late);
         }
         if printed > self.bounds.output {
             return Err(LedgerError::Long);
         }
         Ok(())
+    }
+
+    fn is_late(&self) -> bool {
+        self.clock.seconds().saturating_sub(self.begun) > self.bounds.seconds
     }
 }
 
@@ -94,7 +99,11 @@ impl Watch for Unwatched {
 
     fn begin(&mut self) {}
 
-    fn look(&mut self, _printed: u64) -> Result<(), LedgerError> {
+    fn look(&self, _printed: u64) -> Result<(), LedgerError> {
         Ok(())
+    }
+
+    fn is_late(&self) -> bool {
+        false
     }
 }

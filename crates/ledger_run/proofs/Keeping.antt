@@ -5,7 +5,7 @@ use Rattle.ledger_text.specs.Records as said
 use Rattle.ledger_text.specs.{Records.{Said}, Text.{commit_of}, Digests.{digest_of}}
 use Rattle.ledger_laws.specs.Course as course
 use Rattle.ledger_laws.{specs.Course.{Machine, behind_first, with_record, folded, Follows, AreHonest}, proofs.Coursing.{both_honest}}
-use Rattle.ledger_run.specs.{declared.event.Event.{Event as Made}, Runs.{Seen, IsKept, state_of, answer_in}}
+use Rattle.ledger_run.specs.{declared.event.Event.{Event as Made}, Runs.{Seen, AreAlike, IsKept, state_of, answer_in}}
 use Rattle.ledger_run.specs.Meaning.{Step, Event, State, machine_of, start, event_of, event_behind, Says, end_of, answer_among}
 use Rattle.ledger_run.specs.Following.{seen_event, first_number, is_number, is_free, may_follow, IsTold, Tells, runs, after_event, changed_by}
 use Rattle.ledger_run.specs.declared.event.Event.TheVariants as code
@@ -18,19 +18,28 @@ none_behind : {A : Type 0} (xs : List A) → xs ++ [] ≡ xs
 none_behind [] = refl
 none_behind {A} (x ∷ xs) = ap (λ (l : List A). x ∷ l) (none_behind xs)
 
+-- ---- the same, with one change more
+
+alike_more : (step : Step) (one other : List (List ℕ)) (change : List ℕ) → AreAlike step one other → AreAlike step (one ++ change ∷ []) (other ++ change ∷ [])
+alike_more step one other change alike more text =
+    ap (step text) (in_row one (change ∷ []) more) ∙ alike (change ∷ more) text ∙ sym (ap (step text) (in_row other (change ∷ []) more))
+
+alike_now : (step : Step) (one other : List (List ℕ)) (text : List ℕ) → AreAlike step one other → step text one ≡ step text other
+alike_now step one other text alike = ap (step text) (sym (none_behind one)) ∙ alike [] text ∙ ap (step text) (none_behind other)
+
 -- ---- what the ledger in memory comes to
 
 owed_more : (given owed more answers : List (ℕ × List ℕ)) → given ++ owed ≡ answers → given ++ (owed ++ more) ≡ answers ++ more
 owed_more given owed more answers e = sym (in_row given owed more) ∙ ap (λ (l : List (ℕ × List ℕ)). l ++ more) e
 
-pub becomes : (step : Step) (event : Made) (seen : Seen) (behind : List (List ℕ)) (kept : State) → IsKept seen behind kept
-    → IsKept (after_event event seen) (changed_by event behind) (with_record (machine_of step) (seen_event event) kept)
+pub becomes : (step : Step) (event : Made) (seen : Seen) (behind : List (List ℕ)) (kept : State) → IsKept step seen behind kept
+    → IsKept step (after_event event seen) (changed_by event behind) (with_record (machine_of step) (seen_event event) kept)
 becomes step (code.Took file text) seen behind kept is =
     record { state = is.state; waiting = ap (λ (l : List (ℕ × List ℕ)). l ++ (file.number, text.now) ∷ []) is.waiting; next = refl; given = is.given; answers = is.answers }
 becomes step (code.Refused file reply) seen behind kept is =
     record { state = is.state; waiting = is.waiting; next = refl; given = is.given; answers = owed_more is.given seen.owed ((file.number, reply.now) ∷ []) kept.answers is.answers }
 becomes step (code.Ran n printout change) seen behind kept is = record {
-  state = ap (λ (l : List (List ℕ)). l ++ change.now ∷ []) is.state;
+  state = alike_more step behind kept.state change.now is.state;
   waiting = ap behind_first is.waiting;
   next = is.next;
   given = is.given;
@@ -39,7 +48,7 @@ becomes step (code.Ran n printout change) seen behind kept is = record {
 becomes step (code.Dropped n reply) seen behind kept is =
     record { state = is.state; waiting = ap behind_first is.waiting; next = is.next; given = is.given; answers = owed_more is.given seen.owed ((n, reply.now) ∷ []) kept.answers is.answers }
 becomes step (code.Edited change) seen behind kept is =
-    record { state = ap (λ (l : List (List ℕ)). l ++ change.now ∷ []) is.state; waiting = is.waiting; next = is.next; given = is.given; answers = is.answers }
+    record { state = alike_more step behind kept.state change.now is.state; waiting = is.waiting; next = is.next; given = is.given; answers = is.answers }
 becomes step code.Gave seen behind kept is =
     record { state = is.state; waiting = is.waiting; next = is.next; given = is.given ++ seen.owed; answers = none_behind (is.given ++ seen.owed) ∙ is.answers }
 becomes step code.Noted seen behind kept is = is
@@ -62,7 +71,7 @@ ahead : (n : ℕ) (waiting : List (ℕ × List ℕ)) → is_number n (first_numb
 ahead n [] h = absurd (cc (h))
 ahead n ((m, text) ∷ rest) h = let same : m ≡ n = grind (arith, nat_tests, h) in record { text = text; rest = rest; is = ap (λ (k : ℕ). (k, text) ∷ rest) same }
 
-pub follows : (step : Step) (event : Event) (seen : Seen) (behind : List (List ℕ)) (kept : State) → IsKept seen behind kept
+pub follows : (step : Step) (event : Event) (seen : Seen) (behind : List (List ℕ)) (kept : State) → IsKept step seen behind kept
     → may_follow seen.next (first_number seen.waiting) event ≡ true → IsTold step event kept → Follows (machine_of step) event kept
 follows step (course.Took n text) seen behind kept is may told = subst (λ (next : ℕ). next ≤ n) is.next (beyond seen.next n may)
 follows step (course.Refused n reply) seen behind kept is may told = subst (λ (next : ℕ). next ≤ n) is.next (beyond seen.next n may)
@@ -76,10 +85,10 @@ follows step (course.Edited change) seen behind kept is may told = tt
 follows step course.Noted seen behind kept is may told = tt
 
 -- what the first text's run came to
-pub told_of : (step : Step) (seen : Seen) (behind : List (List ℕ)) (kept : State) (n : ℕ) (text printout change : List ℕ) (rest : List (ℕ × List ℕ)) → IsKept seen behind kept
+pub told_of : (step : Step) (seen : Seen) (behind : List (List ℕ)) (kept : State) (n : ℕ) (text printout change : List ℕ) (rest : List (ℕ × List ℕ)) → IsKept step seen behind kept
     → seen.waiting ≡ (n, text) ∷ rest → step text behind ≡ (printout, change) → IsTold step (course.Ran n printout change) kept
 told_of step seen behind kept n text printout change rest is first told other more e =
-    ap (λ (t : List ℕ). step t kept.state) (inside n other more (sym e ∙ sym is.waiting ∙ first)) ∙ ap (step text) (sym is.state) ∙ told
+    ap (λ (t : List ℕ). step t kept.state) (inside n other more (sym e ∙ sym is.waiting ∙ first)) ∙ sym (alike_now step behind kept.state text is.state) ∙ told
   where
     first_text : List (ℕ × List ℕ) → List ℕ
     first_text [] = []
@@ -89,7 +98,7 @@ told_of step seen behind kept n text printout change rest is first told other mo
     inside m other more e = ap first_text e
 
 module _ (step : Step) (seen : Seen) (behind : List (List ℕ)) where
-  told_alone : (event : Event) → ((kept : State) → IsKept seen behind kept → IsTold step event kept) → Tells step (Some event) seen behind
+  told_alone : (event : Event) → ((kept : State) → IsKept step seen behind kept → IsTold step event kept) → Tells step (Some event) seen behind
   told_alone event told = record { tells = λ other e kept is. subst (λ (x : Event). IsTold step x kept) (inside event other e) (told kept is) }
     where
       inside : (a b : Event) → Some a ≡ Some b → a ≡ b
@@ -97,6 +106,11 @@ module _ (step : Step) (seen : Seen) (behind : List (List ℕ)) where
 
   told_none : Tells step None seen behind
   told_none = record { tells = λ other e kept is. absurd (cc (e)) }
+
+  pub told_first : (n : ℕ) (text printout change : List ℕ) (rest : List (ℕ × List ℕ)) → seen.waiting ≡ (n, text) ∷ rest → step text behind ≡ (printout, change)
+      → Tells step (Some (course.Ran n printout change)) seen behind
+  told_first n text printout change rest first told =
+      told_alone (course.Ran n printout change) (λ kept is. told_of step seen behind kept n text printout change rest is first told)
 
   pub untold : (one : Said) (change : List ℕ) → runs one ≡ false → Tells step (event_of one change) seen behind
   untold (said.Took n account uid name text) change e = told_alone (course.Took n text) (λ kept is. tt)

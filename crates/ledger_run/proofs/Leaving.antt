@@ -5,7 +5,7 @@ use Rattle.ledger_laws.specs.{Claims.{AreOf}, Traces.{changes_ledger}, Answers.{
 use Rattle.ledger_laws.proofs.{Claiming.{after_both}, Careful.{IsUnder, leaves_carefully}}
 use Rattle.ledger_disk.specs.declared.{identity.Identity.{Identity}, name.Name.TheVariants.{Dropped, Claimed}}
 use Rattle.ledger_disk.specs.Disks.{Disk, Which, Call, Write, SyncFile, Rename, Link, Remove, SyncFolder, Saw, Looked, Next, after, after_all, given, which_after, which_behind, LooksAreTrue, AreTrue, IsAmong}
-use Rattle.ledger_run.specs.{Meaning.{Step}, Runs.{Seen, Stood, IsOpen, Opens}, Claiming.{DidSome, BeganSome}}
+use Rattle.ledger_run.specs.{Meaning.{Step}, Runs.{Seen, Stood, IsOpen}, Following.{OpensBehind}, Claiming.{DidSome, BeganSome}}
 use Rattle.ledger_run.proofs.{Looking.{behind_both, looks_same, split, looks_so}, Aside.{AllAside, removals_aside, stood_behind}, Refusing.{some_claimed}}
 use Rattle.ledger_run.specs.Finishing.{is_look, Looks, IsClaimed, IsUnclaimed, IsFit, AreSorted, leave_calls, Leaves, Finishes, LeavesNone, LeavesFit, FinishesCarefully}
 
@@ -120,12 +120,13 @@ true_before (Looked n o ∷ xs) ys disk told = true_before xs ys (after (Looked 
 true_before (Next n o ∷ xs) ys disk told = true_before xs ys (after (Next n o) disk) told
 true_before (Saw n o ∷ xs) ys disk told = (told.0, true_before xs ys disk told.1)
 
-pub opens_finished : {D : Type 0} (calls : D → List Call) (step : Step) (seen : Seen) (behind : List (List ℕ)) (drops left : List ℕ) (old mid new : D)
-    → Opens calls step seen behind old mid → Finishes calls drops left mid new → Opens calls step seen behind old new
-opens_finished calls step seen behind drops left old mid new opens f = record {
-  opens = λ first chain events told fits is_left.
+pub opens_finished : {D : Type 0} (calls : D → List Call) (step : Step) (known : Seen) (known_behind : List (List ℕ)) (seen : Seen) (behind : List (List ℕ)) (drops left : List ℕ)
+    (old mid new : D) → OpensBehind calls step known known_behind seen behind old mid → Finishes calls drops left mid new
+    → OpensBehind calls step known known_behind seen behind old new
+opens_finished calls step known known_behind seen behind drops left old mid new opens f = record {
+  opens = λ first chain events told fits is_left begins.
       let before : AreTrue (calls mid) first = true_before (calls mid) plan first (subst (λ (l : List Call). AreTrue l first) grows told) in
-      let site : IsOpen seen behind step chain (after_all (calls mid) first) = opens.opens first chain events before fits is_left in
+      let site : IsOpen seen behind step chain (after_all (calls mid) first) = opens.opens first chain events before fits is_left begins in
       record {
         events = site.events;
         is = site.is;

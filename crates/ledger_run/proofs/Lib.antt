@@ -14,3 +14,4 @@ pub mod Leaving
 pub mod Refusing
 pub mod Passing
 pub mod Whole
+pub mod Knowing

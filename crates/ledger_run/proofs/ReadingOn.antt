@@ -1,5 +1,5 @@
 -- Reading the ledger, commit by commit.
-use Rattle.std.proofs.Common.{◌≡◌, ◌<◌, ℕ, suc, ◌+◌, ◌-◌, List, [], ◌∷◌, ◌++◌, Option, Some, None, refl, sym, ap, ◌∙◌, subst, arith}
+use Rattle.std.proofs.Common.{◌≡◌, ◌<◌, ◌≤◌, ℕ, suc, ◌+◌, ◌-◌, List, [], ◌∷◌, ◌++◌, Option, Some, None, refl, sym, ap, ◌∙◌, subst, arith}
 use Rattle.ledger_disk.specs.{declared.name.Name.{Name}, declared.name.Name.TheVariants.{Commit}, Plans.{Did}}
 use Rattle.ledger_disk.specs.Disks.{Disk, Files, Call, Write, SyncFile, Rename, Link, Remove, SyncFolder, Saw, Looked, Next, after, after_all, found_in, AreTrue}
 use Rattle.ledger_laws.specs.Commits.{and_more, read_from}
@@ -22,9 +22,9 @@ told (Next n o ∷ xs) name found first true = let t = told xs name found first 
 told (Saw n o ∷ xs) name found first true = let t = told xs name found first true.1 in record { before = (true.0, t.before); here = t.here; same = t.same }
 
 -- what was read so far, and what is left
-pub record Reads {D : Type 0} (calls : D → List Call) (old now : D) (items : List (List ℕ)) (number most : ℕ) (first : Disk) : Type 0 where
+pub record Reads {D : Type 0} (calls : D → List Call) (old now : D) (items : List (List ℕ)) (from number end : ℕ) (first : Disk) : Type 0 where
   pub same : after_all (calls now) first ≡ after_all (calls old) first
-  pub so_far : (left : ℕ) → number + left ≡ most → items ++ read_from left number (found_in (after_all (calls old) first)) ≡ read_from most 0 (found_in (after_all (calls old) first))
+  pub so_far : items ++ read_from (end - number) number (found_in (after_all (calls old) first)) ≡ read_from (end - from) from (found_in (after_all (calls old) first))
 
 in_row : {A : Type 0} (xs ys zs : List A) → (xs ++ ys) ++ zs ≡ xs ++ (ys ++ zs)
 in_row [] ys zs = refl
@@ -34,13 +34,13 @@ none_behind : {A : Type 0} (xs : List A) → xs ++ [] ≡ xs
 none_behind [] = refl
 none_behind {A} (x ∷ xs) = ap (λ (l : List A). x ∷ l) (none_behind xs)
 
-module _ {D : Type 0} (calls : D → List Call) (old now next : D) (items : List (List ℕ)) (number most : ℕ) (found : Option (List ℕ))
-    (reads : (first : Disk) → AreTrue (calls now) first → Reads calls old now items number most first) (did : Did calls (Saw (Commit number) found ∷ []) now next)
+module _ {D : Type 0} (calls : D → List Call) (old now next : D) (items : List (List ℕ)) (from number end : ℕ) (found : Option (List ℕ))
+    (reads : (first : Disk) → AreTrue (calls now) first → Reads calls old now items from number end first) (did : Did calls (Saw (Commit number) found ∷ []) now next)
     (first : Disk) (true : AreTrue (calls next) first) where
   it : Told (calls now) (Commit number) found first
   it = told (calls now) (Commit number) found first (subst (λ (l : List Call). AreTrue l first) did.all true)
 
-  so : Reads calls old now items number most first
+  so : Reads calls old now items from number end first
   so = reads first it.before
 
   abbrev seen : Files
@@ -49,40 +49,45 @@ module _ {D : Type 0} (calls : D → List Call) (old now next : D) (items : List
   found_is : found ≡ seen (Commit number)
   found_is = it.here ∙ ap (λ (d : Disk). found_in d (Commit number)) so.same
 
-  one : (left : ℕ) → number + suc left ≡ most → items ++ and_more found (read_from left (number + 1) seen) ≡ read_from most 0 seen
-  one left is = ap (λ (o : Option (List ℕ)). items ++ and_more o (read_from left (number + 1) seen)) found_is ∙ so.so_far (suc left) is
+  one : number < end → items ++ and_more found (read_from (end - (number + 1)) (number + 1) seen) ≡ read_from (end - from) from seen
+  one less =
+      ap (λ (o : Option (List ℕ)). items ++ and_more o (read_from (end - (number + 1)) (number + 1) seen)) found_is
+      ∙ ap (λ (left : ℕ). items ++ read_from left number seen) (let e : suc (end - (number + 1)) ≡ end - number = omega (arith, less) in e) ∙ so.so_far
 
-pub goes_on : {D : Type 0} (calls : D → List Call) (old now next : D) (items : List (List ℕ)) (number most : ℕ) (bytes : List ℕ)
-    → ((first : Disk) → AreTrue (calls now) first → Reads calls old now items number most first) → Did calls (Saw (Commit number) (Some bytes) ∷ []) now next
-    → (first : Disk) → AreTrue (calls next) first → Reads calls old next (items ++ bytes ∷ []) (number + 1) most first
-goes_on calls old now next items number most bytes reads did first true =
-    let t = it calls old now next items number most (Some bytes) reads did first true in
-    let s = so calls old now next items number most (Some bytes) reads did first true in
+pub goes_on : {D : Type 0} (calls : D → List Call) (old now next : D) (items : List (List ℕ)) (from number end : ℕ) (bytes : List ℕ) → number < end
+    → ((first : Disk) → AreTrue (calls now) first → Reads calls old now items from number end first) → Did calls (Saw (Commit number) (Some bytes) ∷ []) now next
+    → (first : Disk) → AreTrue (calls next) first → Reads calls old next (items ++ bytes ∷ []) from (number + 1) end first
+goes_on calls old now next items from number end bytes less reads did first true =
+    let t = it calls old now next items from number end (Some bytes) reads did first true in
+    let s = so calls old now next items from number end (Some bytes) reads did first true in
     record {
       same = ap (λ (l : List Call). after_all l first) did.all ∙ t.same ∙ s.same;
-      so_far = λ left is.
-          in_row items (bytes ∷ []) (read_from left (number + 1) (found_in (after_all (calls old) first)))
-          ∙ one calls old now next items number most (Some bytes) reads did first true left (omega (arith, is));
+      so_far =
+          in_row items (bytes ∷ []) (read_from (end - (number + 1)) (number + 1) (found_in (after_all (calls old) first)))
+          ∙ one calls old now next items from number end (Some bytes) reads did first true less;
     }
 
 -- all that there is was read, and nothing changed
-abbrev pub IsAll : {D : Type 0} (calls : D → List Call) (old new : D) (items : List (List ℕ)) (most : ℕ) → Disk → Type 0
-IsAll calls old new items most first = (items ≡ read_from most 0 (found_in (after_all (calls old) first))) × (after_all (calls new) first ≡ after_all (calls old) first)
+abbrev pub IsAll : {D : Type 0} (calls : D → List Call) (old new : D) (items : List (List ℕ)) (from end : ℕ) → Disk → Type 0
+IsAll calls old new items from end first =
+    (items ≡ read_from (end - from) from (found_in (after_all (calls old) first))) × (after_all (calls new) first ≡ after_all (calls old) first)
 
-pub ends_there : {D : Type 0} (calls : D → List Call) (old now next : D) (items : List (List ℕ)) (number most : ℕ) → number < most
-    → ((first : Disk) → AreTrue (calls now) first → Reads calls old now items number most first) → Did calls (Saw (Commit number) None ∷ []) now next
-    → (first : Disk) → AreTrue (calls next) first → IsAll calls old next items most first
-ends_there calls old now next items number most less reads did first true =
-    let t = it calls old now next items number most None reads did first true in
-    let s = so calls old now next items number most None reads did first true in (
-      sym (none_behind items) ∙ one calls old now next items number most None reads did first true (most - (number + 1)) (omega (arith, less)),
+pub ends_there : {D : Type 0} (calls : D → List Call) (old now next : D) (items : List (List ℕ)) (from number end : ℕ) → number < end
+    → ((first : Disk) → AreTrue (calls now) first → Reads calls old now items from number end first) → Did calls (Saw (Commit number) None ∷ []) now next
+    → (first : Disk) → AreTrue (calls next) first → IsAll calls old next items from end first
+ends_there calls old now next items from number end less reads did first true =
+    let t = it calls old now next items from number end None reads did first true in
+    let s = so calls old now next items from number end None reads did first true in (
+      sym (none_behind items) ∙ one calls old now next items from number end None reads did first true less,
       ap (λ (l : List Call). after_all l first) did.all ∙ t.same ∙ s.same,
     )
 
-pub ends_last : {D : Type 0} (calls : D → List Call) (old now : D) (items : List (List ℕ)) (most : ℕ)
-    → ((first : Disk) → AreTrue (calls now) first → Reads calls old now items most most first)
-    → (first : Disk) → AreTrue (calls now) first → IsAll calls old now items most first
-ends_last calls old now items most reads first true = (sym (none_behind items) ∙ (reads first true).so_far 0 (omega arith), (reads first true).same)
-
-pub begins : {D : Type 0} (calls : D → List Call) (old : D) (most : ℕ) (first : Disk) → AreTrue (calls old) first → Reads calls old old [] 0 most first
-begins calls old most first true = record { same = refl; so_far = λ left is. ap (λ (n : ℕ). read_from n 0 (found_in (after_all (calls old) first))) (omega (arith, is)) }
+pub ends_last : {D : Type 0} (calls : D → List Call) (old now : D) (items : List (List ℕ)) (from number end : ℕ) → end ≤ number
+    → ((first : Disk) → AreTrue (calls now) first → Reads calls old now items from number end first)
+    → (first : Disk) → AreTrue (calls now) first → IsAll calls old now items from end first
+ends_last calls old now items from number end over reads first true = (
+  sym (none_behind items)
+      ∙ ap (λ (left : ℕ). items ++ read_from left number (found_in (after_all (calls old) first))) (let e : 0 ≡ end - number = omega (arith, over) in e)
+      ∙ (reads first true).so_far,
+  (reads first true).same,
+)

@@ -116,8 +116,8 @@ same_commits code.Noted seen = refl
 pub one_commit : (event : Made) (text : List ℕ) (seen new_seen : Seen) → new_seen ≡ with_commit (digest_of text) (after_event event seen) → new_seen.commits ≡ seen.commits + 1
 one_commit event text seen new_seen is = ap (λ (s : Seen). s.commits) is ∙ ap suc (same_commits event seen) ∙ omega arith
 
-of_commit : (text : List ℕ) (seen : Seen) (behind : List (List ℕ)) (kept : State) → IsKept seen behind kept → IsKept (with_commit (digest_of text) seen) behind kept
-of_commit text seen behind kept is = record { state = is.state; waiting = is.waiting; next = is.next; given = is.given; answers = is.answers }
+of_commit : (step : Step) (text : List ℕ) (seen : Seen) (behind : List (List ℕ)) (kept : State) → IsKept step seen behind kept → IsKept step (with_commit (digest_of text) seen) behind kept
+of_commit step text seen behind kept is = record { state = is.state; waiting = is.waiting; next = is.next; given = is.given; answers = is.answers }
 
 same_sent : (event : Made) (seen : Seen) → (after_event event seen).senders ≡ after_sent (event_sent event) seen.senders
 same_sent (code.Took file text) seen = refl
@@ -140,8 +140,8 @@ of_more step seen behind chain events event text is one sent = record {
   commits = ap suc (same_commits event seen) ∙ ap suc is.commits ∙ sym (length_more chain text);
   last = sym (end_more [] chain text);
   says = says_more [] chain events text (seen_event event) is.says (subst (λ (last : List ℕ). event_behind last (commit_of text) ≡ Some (seen_event event)) is.last one);
-  kept = of_commit text (after_event event seen) (changed_by event behind) (state_of step (events ++ seen_event event ∷ []))
-      (subst (λ (s : State). IsKept (after_event event seen) (changed_by event behind) s) (sym (state_more step events (seen_event event)))
+  kept = of_commit step text (after_event event seen) (changed_by event behind) (state_of step (events ++ seen_event event ∷ []))
+      (subst (λ (s : State). IsKept step (after_event event seen) (changed_by event behind) s) (sym (state_more step events (seen_event event)))
       (becomes step event seen behind (state_of step events) is.kept));
   senders =
       same_sent event seen ∙ ap (after_sent (event_sent event)) is.senders ∙ ap (λ (s : Sent). after_sent s (senders_of chain)) sent

@@ -1,5 +1,6 @@
 -- How one event follows on what a ledger comes to (own).
-use Rattle.std.specs.Prelude.{◌≡◌, ℕ, suc, ◌-◌, ◌^◌, Bool, true, false, ◌&&◌, ◌==◌, nat_le, nat_lt, List, [], ◌∷◌, ◌++◌, Option, None, Some}
+use Rattle.std.specs.Prelude.{◌≡◌, ◌<◌, ℕ, suc, ◌-◌, ◌^◌, Bool, true, false, ◌&&◌, ◌==◌, nat_le, nat_lt, List, [], ◌∷◌, ◌++◌, length, take, Option, None, Some}
+use Rattle.ledger_disk.specs.Disks.{Disk, Call, AreTrue, after_all}
 use Rattle.ledger_laws.specs.Course as course
 use Rattle.ledger_laws.specs.Course.{behind_first}
 use Rattle.ledger_run.specs.declared.event.Event.{Event as Made}
@@ -9,7 +10,7 @@ use Rattle.ledger_text.specs.Records as said
 use Rattle.ledger_text.specs.Records.{Said}
 use Rattle.ledger_text.specs.Text.{commit_of}
 use Rattle.ledger_text.specs.Digests.{digest_of}
-use Rattle.ledger_run.specs.Runs.{Seen, IsKept, IsOf}
+use Rattle.ledger_run.specs.Runs.{Seen, IsKept, IsOf, IsLeft, IsOpen}
 use Rattle.ledger_run.specs.Senders.{Sender, Sent, Waits, Answered, First, Given, Nothing, sender_of, after_sent, sent_in}
 
 -- what an event of the code says
@@ -66,7 +67,7 @@ IsTold step course.Noted kept = Unit {0}
 
 -- if it is an event, its text's run came to this
 pub record Tells (step : Step) (found : Option Event) (seen : Seen) (behind : List (List ℕ)) : Type 0 where
-  pub tells : (event : Event) → found ≡ Some event → (kept : State) → IsKept seen behind kept → IsTold step event kept
+  pub tells : (event : Event) → found ≡ Some event → (kept : State) → IsKept step seen behind kept → IsTold step event kept
 
 -- whether a record says that a text ran
 abbrev pub runs : Said → Bool
@@ -176,3 +177,12 @@ pub record IsOfChain (seen : Seen) (behind : List (List ℕ)) (step : Step) (cha
 -- if it was that of some, it is now that of these behind them
 pub record TakesAll (step : Step) (texts : List (List ℕ)) (seen : Seen) (behind : List (List ℕ)) (new_seen : Seen) (new_behind : List (List ℕ)) : Type 0 where
   pub all : (front : List (List ℕ)) → IsOfChain seen behind step front → IsOfChain new_seen new_behind step (front ++ texts)
+
+-- ---- opening behind commits that are known
+
+-- if what is known is what the first commits come to, and the disk told the truth, the ledger in memory is the one that was left
+pub record OpensBehind {D : Type 0} (calls : D → List Call) (step : Step) (known : Seen) (known_behind : List (List ℕ)) (seen : Seen)
+    (behind : List (List ℕ)) (old new : D) : Type 0 where
+  pub opens : (first : Disk) (chain : List (List ℕ)) (events : List Event) → AreTrue (calls new) first → length chain < 2 ^ 64
+      → IsLeft step chain events (after_all (calls old) first) → IsOfChain known known_behind step (take known.commits chain)
+      → IsOpen seen behind step chain (after_all (calls new) first)

@@ -4,6 +4,7 @@ pub mod Senders
 pub mod Meaning
 pub mod Runs
 pub mod Following
+pub mod Known
 pub mod Finishing
 pub mod Sorting
 pub mod Claiming

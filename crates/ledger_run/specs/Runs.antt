@@ -43,9 +43,13 @@ seen_ledger ledger = record {
   senders = record { waiting = map waits_for ledger.waiting.items; owed = map owed_to ledger.owed.items };
 }
 
+-- two lists of changes over which each text does the same, whatever is changed behind them: a checkpoint has fewer changes than the commits
+abbrev pub AreAlike : Step → List (List ℕ) → List (List ℕ) → Type 0
+AreAlike step one other = (more : List (List ℕ)) (text : List ℕ) → step text (one ++ more) ≡ step text (other ++ more)
+
 -- what it and the machine have is what the commits come to; of the answers, those behind some that were given
-pub record IsKept (seen : Seen) (behind : List (List ℕ)) (kept : State) : Type 0 where
-  pub state : behind ≡ kept.state
+pub record IsKept (step : Step) (seen : Seen) (behind : List (List ℕ)) (kept : State) : Type 0 where
+  pub state : AreAlike step behind kept.state
   pub waiting : seen.waiting ≡ kept.waiting
   pub next : seen.next ≡ kept.next
   pub given : List (ℕ × List ℕ)
@@ -64,7 +68,7 @@ pub record IsOf (seen : Seen) (behind : List (List ℕ)) (step : Step) (chain : 
   pub commits : seen.commits ≡ length chain
   pub last : seen.last ≡ end_of [] chain
   pub says : Says [] chain events
-  pub kept : IsKept seen behind (state_of step events)
+  pub kept : IsKept step seen behind (state_of step events)
   pub senders : seen.senders ≡ senders_of chain
 
 -- Each text ran once, over what the texts before it left; the ledger is on the disk; an answer's name has nothing or that answer.

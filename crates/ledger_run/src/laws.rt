@@ -1,5 +1,6 @@
-//! Each law is the contract of a function that does nothing.
+//! Each law is the contract of a function that at most cites laws of the crates below.
 ghost use Rattle.ledger_run.specs.Finishing.{FinishesCarefully};
+ghost use Rattle.ledger_run.specs.Known.{KnownAsItWas};
 ghost use Rattle.ledger_run.specs.Passes.{PassIsCareful, RunKeepsFiles};
 ghost use Rattle.ledger_run.specs.Runs.{Restarts};
 
@@ -26,3 +27,10 @@ pub fn pass_is_careful()
 pub fn run_keeps_files()
     ensures { RunKeepsFiles }
 {}
+
+/// What is known by the text that was written of a ledger is what it had in memory.
+pub fn known_as_it_was()
+    ensures { KnownAsItWas }
+{
+    ledger_index::laws::course_reads_back();
+}

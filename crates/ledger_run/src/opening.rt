@@ -2,13 +2,13 @@
 ghost use Rattle.std.specs.Prelude.{◌≡◌, [], map, IfOk, OnOk};
 ghost use Rattle.ledger_disk.specs.Plans.{Did};
 ghost use Rattle.ledger_run.specs.Runs.{seen_ledger, settle_calls, Opens};
-ghost use Rattle.ledger_run.specs.Following.{Takes, TakesAll};
+ghost use Rattle.ledger_run.specs.Following.{Takes, TakesAll, OpensBehind};
 ghost use Rattle.ledger_run.specs.Finishing.{LeavesNone, LeavesFit};
 
 use crate::event::read_event;
 use crate::finishing::finish_claims;
 use crate::folding::{count_commit, follow, may_follow};
-use crate::{Ledger, LedgerError, Machine, read_ledger};
+use crate::{Ledger, LedgerError, Machine, read_behind};
 use ledger_disk::{Disk, DiskError, Folder};
 use std::alloc::Global;
 
@@ -50,18 +50,18 @@ fn take_all<M: Machine>(
     Ok(())
 }
 
-// The ledger that stands, settled and followed.
+// The ledger that stands, settled and followed, where these are the first of its commits.
 fn read_chain<D: Disk, M: Machine>(
-    alloc: Global,
+    known: Ledger,
     disk: &mut D,
     machine: &mut M,
 ) -> Result<Ledger, LedgerError>
-    requires { M.behind machine.old ≡ [] }
-    ensures { IfOk result (λ ledger. Opens D.calls M.step (seen_ledger ledger) (M.behind machine.new) disk.old disk.new) }
+    ensures { IfOk result (λ ledger. OpensBehind D.calls M.step (seen_ledger known) (M.behind machine.old) (seen_ledger ledger) (M.behind machine.new)
+        disk.old disk.new) }
 {
     settle(disk)?;
-    let commits = read_ledger(alloc, disk, u64::MAX)?;
-    let mut ledger = Ledger::new(alloc);
+    let commits = read_behind(known.alloc, disk, known.commits, u64::MAX)?;
+    let mut ledger = known;
     take_all(machine, &mut ledger, &commits)?;
     Ok(ledger)
 }
@@ -86,7 +86,30 @@ pub fn open_ledger<D: Disk, M: Machine>(
     ensures finished { OnOk result (LeavesNone D.calls drops.new.items disk.new) }
     ensures fit { OnOk result (LeavesFit D.calls drops.old.items drops.new.items disk.new) }
 {
-    let ledger = read_chain(alloc, disk, machine)?;
+    let none = Ledger::new(alloc);
+    let ledger = open_behind(none, disk, machine, drops)?;
+    Ok(ledger)
+}
+
+/// Opens the ledger so by what its first commits come to, in memory and by the machine: these are not read. A machine may have other
+/// changes behind it than they, if each text does the same over both.
+///
+/// # Errors
+///
+/// As `open_ledger`.
+pub fn open_behind<D: Disk, M: Machine>(
+    known: Ledger,
+    disk: &mut D,
+    machine: &mut M,
+    drops: &mut Vec<u64>,
+) -> Result<Ledger, LedgerError>
+    ensures opens { IfOk result (λ ledger. OpensBehind D.calls M.step (seen_ledger known) (M.behind machine.old) (seen_ledger ledger)
+        (M.behind machine.new) disk.old disk.new) }
+    ensures finished { OnOk result (LeavesNone D.calls drops.new.items disk.new) }
+    ensures fit { OnOk result (LeavesFit D.calls drops.old.items drops.new.items disk.new) }
+{
+    let alloc = known.alloc;
+    let ledger = read_chain(known, disk, machine)?;
     let left = finish_claims(alloc, disk, drops)?;
     *drops = left;
     Ok(ledger)

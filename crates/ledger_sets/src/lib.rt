@@ -13,4 +13,4 @@ pub mod writing;
 
 pub use applying::apply_change;
 pub use site::{NoChange, State, Tables};
-pub use writing::{run_change, sets_change, tables_change};
+pub use writing::{rest_change, run_change, sets_change, tables_change, whole_change};

@@ -126,7 +126,7 @@ fn put_changed(
     put_kept(alloc, name, first, &is.records, out)
 }
 
-fn put_whole(
+pub(crate) fn put_whole(
     alloc: Global,
     name: &Name,
     set: &DataSet,

@@ -1,13 +1,14 @@
 //! The texts of changes: what a commit has beside its record.
 ghost use Rattle.std.specs.Prelude.{◌≡◌, ◌++◌, ◌∷◌, [], IfOk, OnOk};
 ghost use Rattle.ledger_text.specs.Text.{commit_text};
-ghost use Rattle.ledger_text.specs.Records.{Audit};
-ghost use Rattle.ledger_sets.specs.Changes.{said_text, change_text, changes_between, run_changes, tables_changes};
+ghost use Rattle.ledger_text.specs.Records.{Audit, Tables};
+ghost use Rattle.ledger_sets.specs.Changes.{whole, said_text, change_text, changes_between, run_changes, tables_changes};
 ghost use Rattle.ledger_sets.specs.Writing.{texts_in};
 
-use crate::sets::put_changes;
+use crate::sets::{put_changes, put_whole};
 use ledger_text::{Record, commit_text, record_text};
-use mon_catalogue::Catalogue;
+use mon_catalogue::{Catalogue, DataSet};
+use mon_text::Name;
 use std::alloc::{AllocError, Global};
 
 /// The change from one catalogue to another, as the operator makes it.
@@ -63,6 +64,34 @@ pub fn tables_change(
     let tables = commit_text(alloc, &[accounts, users, limits])?;
     let said = record_text(alloc, 0, Record::Tables(&tables))?;
     commit_text(alloc, &[said.as_slice()])
+}
+
+/// A data set that is put whole, as a change of its own.
+///
+/// # Errors
+///
+/// Where a growth was refused.
+pub fn whole_change(alloc: Global, name: &Name, set: &DataSet) -> Result<Vec<u8>, AllocError>
+    ensures { IfOk result (λ text. text.items ≡ change_text (whole (name.now, set.now) ∷ [])) }
+{
+    let mut texts = Vec::new(alloc);
+    put_whole(alloc, name, set, &mut texts)?;
+    text_of_all(alloc, &texts)
+}
+
+/// What a state has besides its data sets, as a change of its own: how many jobs ran, and the operator's texts, as a record has them.
+///
+/// # Errors
+///
+/// Where a growth was refused.
+pub fn rest_change(alloc: Global, jobs: u64, tables: &[u8]) -> Result<Vec<u8>, AllocError>
+    ensures { IfOk result (λ text. text.items ≡ change_text (Audit jobs [] ∷ Tables tables.now ∷ [])) }
+{
+    let mut texts = Vec::new(alloc);
+    put_audit(alloc, jobs, b"", &mut texts)?;
+    let said = record_text(alloc, 0, Record::Tables(tables))?;
+    texts.push(said)?;
+    text_of_all(alloc, &texts)
 }
 
 fn put_audit(

@@ -266,10 +266,8 @@ impl Catalogue {
         ensures added { OnOk result (self.new ≡ self.old ++ (name, set) ∷ []) }
         ensures unchanged { OnErr result (self.new ≡ self.old) }
     {
-        match self.sets.insert(name, set) {
-            Ok(_) => Ok(()),
-            Err(_) => Err(AllocError),
-        }
+        self.sets.insert(name, set)?;
+        Ok(())
     }
 
     pub(crate) fn allocator(&self) -> Global {

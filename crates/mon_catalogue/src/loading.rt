@@ -238,7 +238,7 @@ fn push_record(
     ensures pushed { Pushes number set.old left.old line.now set.new left.new result }
     ensures unchanged { OnErr result ((set.new ≡ set.old) × (left.new ≡ left.old)) }
 {
-    if line.len() > MOST_RECORD_CHARACTERS {
+    if !is_record(line) {
         return Err(Stop::Refused(CatalogueError::BadText(number)));
     }
     match set.records.push(line) {
@@ -248,6 +248,15 @@ fn push_record(
         }
         Err(_) => Err(Stop::Memory),
     }
+}
+
+// Whether a line can be a record.
+#[inline(always)]
+fn is_record(line: &[u8]) -> bool
+    ensures value { result ≡ is_record line.now }
+    ensures short { result ≡ true → length line.now ≤ MOST_RECORD_CHARACTERS }
+{
+    line.len() <= MOST_RECORD_CHARACTERS
 }
 
 // Goes on to what is due after one more line. It stays a call, so that a record is put without its room.
@@ -384,7 +393,7 @@ fn after_record(
     ensures step { Reaches version number catalogue.new (IsTrue (is_record line.now)) result (after_record version number catalogue.old name set left line.now) }
     ensures sound { IfOk result (IsSound catalogue.new) }
 {
-    if line.len() > MOST_RECORD_CHARACTERS {
+    if !is_record(line) {
         return Err(Stop::Refused(CatalogueError::BadText(number)));
     }
     match set.records.push(line) {

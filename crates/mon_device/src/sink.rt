@@ -38,6 +38,11 @@ pub trait Sink {
         ensures puts { Puts (standing self.old) (standing self.new) [] }
         ensures written { OnOk result (heeded ≡ true → ((standing self.new).gathered ≡ []) × ((standing self.new).failed ≡ false)) }
         ensures failed { OnErr result ((heeded ≡ true) × ((standing self.new).failed ≡ true)) };
+
+    /// Whether whoever takes it wants the run broken off, as where a growth is refused. It is asked now and then.
+    fn is_late(&self) -> bool {
+        false
+    }
 }
 
 /// A text in memory to which a printout is put.

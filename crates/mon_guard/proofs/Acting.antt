@@ -1,13 +1,13 @@
 -- What acts on records come to, and what they leave of the catalogue.
 use Rattle.std.proofs.Common.{◌≡◌, ℕ, Bool, true, false, cond, nat_eq, List, [], ◌∷◌, Option, None, Some, refl, sym, ap, ◌∙◌, inl, inr, ◌⊎◌, slice_get}
-use Rattle.mon_access.specs.declared.{account.Account.{Account}, access.Decider.{Decider}, access.Decision.{Decision}}
+use Rattle.mon_access.specs.declared.{account.Account.{Account}, access.Decision.{Decision}}
 use Rattle.mon_access.specs.declared.access.Decision.TheVariants as decision
 use Rattle.mon_catalogue.specs.declared.{data_set.SetFull.{SetFull}, mode.Mode.{Mode}, mode.Mode.TheVariants.{Seq, Append}}
 use Rattle.mon_catalogue.specs.{Writing.{Change, writing, change_refusal, recorded}, declared.data_set.DataSet.{DataSet}, Sets.{Sets, find_set}}
 use Rattle.mon_catalogue.{specs.Changes.{with_changed}, proofs.Changing.{changed_there}}
 use Rattle.interaction.specs.declared.answer.{Reason.{Reason}, Reason.TheVariants.{NoSet, Mode as WrongMode}, Answer.{Answer}}
 use Rattle.interaction.specs.declared.answer.Answer.TheVariants as answer
-use Rattle.mon_guard.{specs.Deciding.{decision_on}, specs.inner.Judging.{acted_by}, specs.inner.Parts.{by_decision, or_denied, ended}, proofs.Shorthand.{made}}
+use Rattle.mon_guard.{specs.Deciding.{decision_on}, specs.inner.Parts.{by_decision, or_denied, ended}, proofs.Shorthand.{made}}
 use Rattle.mon_guard.specs.{Reasons.{reason_of}, Laws.{IsThere, IsGranted, IsFor, WhyNotAct, ActsWhereGranted}}
 use Rattle.mon_guard.specs.Acting.{Act, Read, Write, End, Acted, asks, done, acted_on, acted, only_answered, read_at, left, changed}
 use Rattle.std.specs.Cmp.Lexicographic.{pointwise}
@@ -28,15 +28,6 @@ left_so name None (named ∷ sets) set at = by (pointwise nat_eq name named.0) a
 -- a set that is lent and left as it was
 pub left_as_it_was : (name : List ℕ) (sets : Sets) (set : DataSet) → Some set ≡ find_set name sets → with_changed name (λ _. set) sets ≡ sets
 left_as_it_was name sets set at = left_so name None sets set at
-
--- a set as an act leaves it that was granted, or denied
-pub left_granted : (d : Decision) (act : Act) (set out : DataSet) → d ≡ decision.Granted → out ≡ left (done act set).change set
-    → out ≡ left (acted_by d act set).change set
-left_granted d act set out is h = h ∙ ap (λ (e : Decision). left (acted_by e act set).change set) (sym is)
-
-pub left_denied : (d : Decision) (decider : Decider) (act : Act) (set out : DataSet) → d ≡ decision.Denied decider → out ≡ set
-    → out ≡ left (acted_by d act set).change set
-left_denied d decider act set out is h = h ∙ ap (λ (e : Decision). left (acted_by e act set).change set) (sym is)
 
 pub ruleset changes = (left_as_it_was)
 

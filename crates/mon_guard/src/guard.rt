@@ -11,8 +11,10 @@ ghost use Rattle.interaction.specs.declared.answer.Reason.{Reason};
 ghost use Rattle.mon_guard.specs.Deciding.{to_read, to_write, to_execute, decision_on, decided, where_granted};
 ghost use Rattle.mon_guard.specs.Views.{records_lent, acl_lent, name_lent};
 ghost use Rattle.mon_guard.specs.Owning.{owner_denial, removed, acl_set, created, new_list};
-ghost use Rattle.mon_guard.specs.Acting.{Read, Write, End, acted, changed, done, left, told, read_at};
+ghost use Rattle.mon_guard.specs.Acting.{Read, Write, End, acted, changed, changing, done, left, told, read_at};
+ghost use Rattle.mon_catalogue.specs.Writing.{Put, Add};
 ghost use Rattle.mon_guard.specs.Answers.{guard_answer, acl_answer};
+ghost use Rattle.mon_guard.specs.inner.Judging.{acted_by};
 
 use crate::answer::{AclAnswer, Answered, Decided, guard_answer, reason_of};
 use crate::cache::DecisionCache;
@@ -394,10 +396,7 @@ impl Guard {
             return Ok(Answered::denied(Reason::NoSet, position));
         };
         let verdict = self.cache.decide(lookup, account, name, set, to_write());
-        let answered = match verdict.decision {
-            Decision::Granted => write_to(set, position, line)?,
-            Decision::Denied(decider) => Answered::denied_by(decider, &set.acl, position),
-        };
+        let answered = write_by(verdict.decision, set, position, line)?;
         self.cache.remember(verdict.next, account, name, set);
         Ok(answered)
     }
@@ -423,10 +422,7 @@ impl Guard {
             return Answered::denied(Reason::NoSet, position);
         };
         let verdict = self.cache.decide(lookup, account, name, set, to_write());
-        let answered = match verdict.decision {
-            Decision::Granted => end_at(set, position),
-            Decision::Denied(decider) => Answered::denied_by(decider, &set.acl, position),
-        };
+        let answered = end_by(verdict.decision, set, position);
         self.cache.remember(verdict.next, account, name, set);
         answered
     }
@@ -529,6 +525,26 @@ fn read_at(alloc: Global, records: &Records, position: u64) -> Result<Answered, 
     }
 }
 
+// Writes a record where that was granted.
+#[inline(always)]
+fn write_by(
+    decision: Decision,
+    set: &mut DataSet,
+    position: u64,
+    line: Line,
+) -> Result<Answered, AllocError>
+    requires short { length line ≤ MOST_RECORD_CHARACTERS }
+    ensures answer { IfOk result (λ answered. answered ≡ told position (acted_by decision (Write position line) set.old)) }
+    ensures set { OnOk result (set.new ≡ left (acted_by decision (Write position line) set.old).change set.old) }
+    ensures unchanged { OnErr result (set.new ≡ set.old) }
+    ensures memory { OnErr result ((acted_by decision (Write position line) set.old).answer ≡ Answer.Done) }
+{
+    match decision {
+        Decision::Granted => write_to(set, position, line),
+        Decision::Denied(decider) => Ok(Answered::denied_by(decider, &set.acl, position)),
+    }
+}
+
 // Writes a record by the set's mode.
 fn write_to(set: &mut DataSet, position: u64, line: Line) -> Result<Answered, AllocError>
     requires short { length line ≤ MOST_RECORD_CHARACTERS }
@@ -537,14 +553,53 @@ fn write_to(set: &mut DataSet, position: u64, line: Line) -> Result<Answered, Al
     ensures unchanged { OnErr result (set.new ≡ set.old) }
     ensures memory { OnErr result ((done (Write position line) set.old).answer ≡ Answer.Done) }
 {
-    let (put, next) = match set.mode {
-        Mode::Seq => (set.put_at(position, line), set.records.len()),
-        Mode::Append => (set.append(line), position),
-    };
-    match put {
-        Ok(()) => Ok(Answered::done(next)),
+    match set.mode {
+        Mode::Seq => put_at(set, position, line),
+        Mode::Append => append(set, position, line),
+    }
+}
+
+// Puts a record at a position, which is then behind it.
+#[inline(always)]
+fn put_at(set: &mut DataSet, position: u64, line: Line) -> Result<Answered, AllocError>
+    requires short { length line ≤ MOST_RECORD_CHARACTERS }
+    ensures answer { IfOk result (λ answered. answered ≡ told position (changing (Put position line) set.old.records)) }
+    ensures set { OnOk result (set.new ≡ left (changing (Put position line) set.old.records).change set.old) }
+    ensures unchanged { OnErr result (set.new ≡ set.old) }
+    ensures memory { OnErr result ((changing (Put position line) set.old.records).answer ≡ Answer.Done) }
+{
+    match set.put_at(position, line) {
+        Ok(()) => Ok(Answered::done(set.records.len())),
         Err(Stop::Refused(SetFull)) => Ok(Answered::full(position)),
         Err(Stop::Memory) => Err(AllocError),
+    }
+}
+
+// Puts a record behind all others; the position stays.
+#[inline(always)]
+fn append(set: &mut DataSet, position: u64, line: Line) -> Result<Answered, AllocError>
+    requires short { length line ≤ MOST_RECORD_CHARACTERS }
+    ensures answer { IfOk result (λ answered. answered ≡ told position (changing (Add line) set.old.records)) }
+    ensures set { OnOk result (set.new ≡ left (changing (Add line) set.old.records).change set.old) }
+    ensures unchanged { OnErr result (set.new ≡ set.old) }
+    ensures memory { OnErr result ((changing (Add line) set.old.records).answer ≡ Answer.Done) }
+{
+    match set.append(line) {
+        Ok(()) => Ok(Answered::done(position)),
+        Err(Stop::Refused(SetFull)) => Ok(Answered::full(position)),
+        Err(Stop::Memory) => Err(AllocError),
+    }
+}
+
+// Ends a set where that was granted.
+#[inline(always)]
+fn end_by(decision: Decision, set: &mut DataSet, position: u64) -> Answered
+    ensures answer { result ≡ told position (acted_by decision (End position) set.old) }
+    ensures set { set.new ≡ left (acted_by decision (End position) set.old).change set.old }
+{
+    match decision {
+        Decision::Granted => end_at(set, position),
+        Decision::Denied(decider) => Answered::denied_by(decider, &set.acl, position),
     }
 }
 

@@ -1,5 +1,5 @@
 //! A job's units.
-ghost use Rattle.std.specs.Prelude.{◌≡◌, [], ◌∷◌, ◌++◌, OnOk, OnErr, IfOk, IsSome, slice_get};
+ghost use Rattle.std.specs.Prelude.{◌≡◌, ◌<◌, ◌-◌, ◌^◌, [], ◌∷◌, ◌++◌, OnOk, OnErr, IfOk, IfSome, IsSome, slice_get};
 ghost use Rattle.std.specs.List.{list_any};
 ghost use Rattle.std.specs.Option.{option_copied};
 ghost use Rattle.std.specs.Result.{result_err};
@@ -136,12 +136,24 @@ impl Units {
         ensures unchanged { OnErr result (self.new ≡ self.old) }
         ensures memory { OnErr result (IsSome (slice_get self.old.deck position)) }
     {
-        let Some(line) = self.deck.as_slice().get(position as usize) else {
+        let Some(line) = self.deck_line(alloc, position)? else {
             return Ok(Answer::EndOfFile);
         };
-        let line = line.copy(alloc)?;
         self.place(unit, position + 1);
         Ok(Answer::Got(line))
+    }
+
+    // The line at a position of the deck's data, once more.
+    #[inline(always)]
+    fn deck_line(&self, alloc: Global, position: u64) -> Result<Option<Line>, AllocError>
+        ensures line { IfOk result (λ line. line ≡ slice_get self.now.deck position) }
+        ensures within { IfOk result (λ line. IfSome line (λ l. position < 2 ^ 64 - 1)) }
+        ensures memory { OnErr result (IsSome (slice_get self.now.deck position)) }
+    {
+        match self.deck.as_slice().get(position as usize) {
+            Some(line) => Ok(Some(line.copy(alloc)?)),
+            None => Ok(None),
+        }
     }
 
     // The unit's next record is at the position.

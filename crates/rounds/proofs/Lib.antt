@@ -9,13 +9,6 @@ pub mod Reaching
 pub mod Cutting
 pub mod GoingOn
 pub mod Composed
-pub mod GoodHeads
 pub mod Served
 pub mod Standing
 pub mod Stopping
-mod Mapping
-mod Joined
-mod Handed
-mod Pieces
-mod Dues
-mod Damage

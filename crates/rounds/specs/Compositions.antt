@@ -48,13 +48,6 @@ pub record IsGoodHead (head : List ℕ) (table : List (List ℕ)) (accounts : Li
   pub stored : IsStored sets
   pub printable : ArePrintable sets
 
--- that of some accounts and data sets: no more stands in it, and no less
-pub record IsWholeHead (head : List ℕ) : Type 0 where
-  pub table : List (List ℕ)
-  pub accounts : List Account
-  pub sets : Sets
-  pub good : IsGoodHead head table accounts sets
-
 -- such a head, and texts that were admitted
 pub record IsGoodRound (head : List ℕ) (submissions : List Submission) (table : List (List ℕ)) (accounts : List Account) (sets : Sets) (texts : List Handed) : Type 0 where
   pub begins : IsGoodHead head table accounts sets

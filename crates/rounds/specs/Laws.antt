@@ -1,6 +1,6 @@
 -- What holds of rounds: each is the contract of a function in `laws`.
-use Rattle.std.specs.Prelude.{◌≡◌, ◌≢◌, ℕ, ◌≤◌, false, List, [], ◌∷◌, ◌++◌, length, map, Some, codes}
-use Rattle.std.specs.List.{AllByRecursion, concat, flat_map, zip}
+use Rattle.std.specs.Prelude.{◌≡◌, ◌≢◌, ℕ, false, List, [], ◌∷◌, ◌++◌}
+use Rattle.std.specs.List.{AllByRecursion, concat}
 use Rattle.mon_access.specs.declared.account.Account.{Account}
 use Rattle.mon_access.specs.Accounts.{HaveDifferentNames}
 use Rattle.mon_catalogue.specs.Sets.{Sets}
@@ -19,15 +19,7 @@ use Rattle.deck_driver.specs.Printouts.{closing, output_of_run_state, output_of,
 use Rattle.deck_run.specs.Runs.{deck_ending, catalogue_after}
 use Rattle.preflight.specs.declared.submission.Submission.{Submission}
 use Rattle.preflight.specs.Rounds.{Handed, AreHanded, round_lines}
-use Rattle.site_folder.specs.Files.{Given, put_of, removal_of as no_file}
-use Rattle.site_folder.specs.Parts.{Act, IsSpellable, parts_text, total, puts_of}
-use Rattle.site_folder.specs.Rounds.{Owed, owed_by}
-use Rattle.site_plan.specs.declared.judging.Refused as refused
-use Rattle.site_plan.specs.declared.plan.Entry.{Entry}
-use Rattle.site_plan.specs.declared.taken.Taken.{Taken}
 use Rattle.rounds.specs.Delivery.{text_events, text_played, delivered}
-use Rattle.rounds.specs.Handing.{answer_name, taken_name, replied, reply_acts, output_acts, removal_of}
-use Rattle.rounds.specs.Planning.{refused_as}
 use Rattle.rounds.specs.Compositions.{head_text, round_text, AreAdmitted, IsGoodRound, ends_of, cut_at}
 
 -- the text that follows finds all slots empty
@@ -60,38 +52,6 @@ pub record HasItsParts (options : Options) (m : Marks) (head : List ℕ) (submis
 abbrev pub EachItsPart : Type 0
 EachItsPart = (options : Options) (m : Marks) (head : List ℕ) (submissions : List Submission) (table : List (List ℕ)) (accounts : List Account) (sets : Sets) (texts : List Handed)
     → options.check ≡ false → IsGoodRound head submissions table accounts sets texts → HasItsParts options m head submissions accounts sets texts
-
--- from this place on, no printout ends before the one before it
-abbrev pub AreAscending : ℕ → List ℕ → Type 0
-AreAscending begin [] = Unit {0}
-AreAscending begin (end ∷ ends) = (begin ≤ end) × AreAscending end ends
-
--- what those are given whose texts ran, and the catalogue
-abbrev pub printed_to : List Entry → List ℕ → List ℕ → List Given
-printed_to texts ends output = map (λ piece. put_of piece.0 piece.1) (zip (map (λ text. answer_name text.taken) texts ++ codes "catalogue" ∷ []) (cut_at 0 ends output))
-
--- the output is cut where the printouts of the texts that ran end: each is given its own piece, and the catalogue is the last
-abbrev pub EachItsOwn : Type 0
-EachItsOwn = (texts others : List Entry) (ends output : List ℕ) → length ends ≡ length texts → AreAscending 0 ends
-    → puts_of (output_acts 0 (texts ++ others) ends (length output)) output
-    ≡ printed_to texts ends output
-
--- What a round owes by the text of its parts: to those whose texts do not run, bytes of the replies, which the acts of these cut; to those
--- whose texts ran, and to the catalogue, each its own piece of the output; and the claimed files are removed.
-abbrev pub EachItsDue : Type 0
-EachItsDue = (texts others : List Entry) (files : List Taken) (ends replies output : List ℕ)
-    → length ends ≡ length texts → AreAscending 0 ends → AllByRecursion (λ end. end ≤ length output) ends
-    → (let told = flat_map reply_acts (texts ++ others) in
-    let printed = output_acts 0 (texts ++ others) ends (length output) ++ map removal_of files in
-    AllByRecursion IsSpellable told → AllByRecursion IsSpellable printed → total told ≡ length replies
-    → owed_by replies (parts_text (told ++ printed)) output
-    ≡ Some (record { puts = puts_of told replies ++ printed_to texts ends output; removals = map (λ taken. no_file (taken_name taken)) files }))
-
--- the replies of a plan, cut by the acts of its refused texts: each is told its own
-abbrev pub EachItsReply : Type 0
-EachItsReply = (texts : List refused.Refused)
-    → puts_of (flat_map (λ text. replied text.taken (refused_as text).verdict) texts) (flat_map (λ text. text.reply.items) texts)
-    ≡ map (λ text. put_of (answer_name text.taken) text.reply.items) texts
 
 -- the texts of one round of many, and where memory breaks turns off in it
 pub record OneRound : Type 0 where

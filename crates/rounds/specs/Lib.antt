@@ -1,11 +1,7 @@
 pub mod Delivery
 pub mod Compositions
-pub mod Beginnings
 pub mod Laws
 pub mod InParts
 pub mod Isolation
 pub mod Example
 pub mod Serving
-pub mod Planning
-pub mod Handing
-pub mod Late

@@ -76,24 +76,16 @@ fn put_texts(out: &mut Vec<u8>, texts: &[Submission]) -> Result<(), AllocError>
     Ok(())
 }
 
-/// Appends a text with a `$DRAIN` card behind it.
-///
-/// # Errors
-///
-/// Where a growth was refused.
-pub fn put_text(out: &mut Vec<u8>, text: &Submission) -> Result<(), AllocError>
+// Appends a text with a `$DRAIN` card behind it.
+fn put_text(out: &mut Vec<u8>, text: &Submission) -> Result<(), AllocError>
     ensures { OnOk result (out.new.items ≡ out.old.items ++ with_fence text.now) }
 {
     out.extend_from_slice(&text.text)?;
     out.extend_from_slice(b"$DRAIN\n")
 }
 
-/// Appends the end of a deck.
-///
-/// # Errors
-///
-/// Where a growth was refused.
-pub fn put_stop(out: &mut Vec<u8>) -> Result<(), AllocError>
+// Appends the end of a deck.
+fn put_stop(out: &mut Vec<u8>) -> Result<(), AllocError>
     ensures { OnOk result (out.new.items ≡ out.old.items ++ codes "$STOP\n") }
 {
     out.extend_from_slice(b"$STOP\n")

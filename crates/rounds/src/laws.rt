@@ -2,7 +2,7 @@
 ghost use Rattle.rounds.specs.Example.{TheyFindAlike};
 ghost use Rattle.rounds.specs.Isolation.{TextsIsolated, SitesIsolated};
 ghost use Rattle.rounds.specs.InParts.{RoundsRunInParts};
-ghost use Rattle.rounds.specs.Laws.{EachAlone, Delivers, EachTells, EachItsPart, EachItsOwn, EachItsDue, EachItsReply, GoesOn};
+ghost use Rattle.rounds.specs.Laws.{EachAlone, Delivers, EachTells, EachItsPart, GoesOn};
 
 /// A text leaves all slots empty: the next one finds nothing of it except the data sets.
 pub fn each_alone()
@@ -44,23 +44,6 @@ pub fn each_its_part()
     mon_monitor::laws::accounts_stay();
     mon_monitor::laws::slots_stay();
 }
-
-/// What `parts_text` gives each text that ran is its own piece of the output, cut where the printouts end; and the last is the catalogue.
-pub fn each_its_own()
-    ensures { EachItsOwn }
-{}
-
-/// What a round owes by such parts is cut of its replies for those whose texts do not run, and of its output for those whose texts ran.
-pub fn each_its_due()
-    ensures { EachItsDue }
-{
-    site_folder::laws::owes_each_its_own();
-}
-
-/// What `parts_text` gives each text that is refused is its own reply.
-pub fn each_its_reply()
-    ensures { EachItsReply }
-{}
 
 /// A round's deck is never refused, and what a round leaves is good for the next: for ever.
 pub fn goes_on()

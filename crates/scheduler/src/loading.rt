@@ -110,6 +110,20 @@ fn tied(alloc: Global, lines: Lines, ties: &UnitCards) -> Result<Units, AllocErr
     Ok(units)
 }
 
+// The units that the cards tie, over the lines from an index on.
+fn units_of(
+    alloc: Global,
+    lines: &Lines,
+    from: usize,
+    ties: &UnitCards,
+) -> Result<Units, AllocError>
+    requires { ties_refusal ties.now (new_units (drop from lines.now)) ≡ None }
+    ensures { IfOk result (λ units. units ≡ with_ties ties.now (new_units (drop from lines.now))) }
+{
+    let data = copied_from(alloc, lines.as_slice(), from)?;
+    tied(alloc, data, ties)
+}
+
 // The program that the cards spell.
 fn program_of(alloc: Global, seed: Seed, cards: &ProgramCards) -> Result<Program, Stop<LoadError>>
     ensures program { IfOk result (λ program. IsProgram cards.now (program_of program)) }
@@ -143,8 +157,7 @@ fn parts_of(
 {
     let cards = cards_of(alloc, lines)?;
     let program = program_of(alloc, seed, &cards)?;
-    let data = copied_from(alloc, lines.as_slice(), cards.data_from())?;
-    let units = tied(alloc, data, ties)?;
+    let units = units_of(alloc, lines, cards.data_from(), ties)?;
     Ok(Parts { units, program })
 }
 

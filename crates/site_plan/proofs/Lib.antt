@@ -1,7 +1,5 @@
 pub mod Walking
-mod Weighed
 mod Reaching
 mod Owners
-mod Verdicts
 pub mod Tables
 mod Catalogues

@@ -4,8 +4,6 @@ use Rattle.std.specs.Prelude.{◌≡◌, ℕ, ◌+◌, ◌-◌, ◌==◌, Bool, 
 use Rattle.std.specs.Option.{option_or, option_map_or}
 use Rattle.std.specs.List.{AllByRecursion}
 use Rattle.std.specs.Str.Lines.{lines}
-use Rattle.hex.specs.Hex.{encode_lower}
-use Rattle.sha2.specs.Sha256.{sha256}
 use Rattle.mon_text.specs.Lines.{words}
 use Rattle.mon_catalogue.specs.declared.version.Version.{Version}
 use Rattle.mon_catalogue.specs.Progress.{Progress, SetDue, step, is_due}
@@ -65,7 +63,3 @@ pub record SpellsCatalogue (text : List ℕ) (sets : Sets) : Type 0 where
   pub text_is : IsCatalogueText version others sets
   pub text_fits : AllByRecursion (IsLineWithin 5000) others
   pub ended : IsTrue (is_ended text)
-
--- a checksum of bytes
-abbrev pub checksum_of : List ℕ → List ℕ
-checksum_of bytes = encode_lower (sha256 bytes)

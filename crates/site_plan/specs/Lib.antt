@@ -4,10 +4,7 @@ pub mod Terms
 pub mod Tables
 pub mod Catalogues
 pub mod Names
-pub mod Next
 pub mod Owning
 pub mod Weighing
 pub mod Replies
-pub mod Judging
-pub mod Plans
 pub mod Laws

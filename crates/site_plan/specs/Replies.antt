@@ -80,6 +80,3 @@ reason_text account (reason.Line refusal) text = refusal_text refusal (line_at r
 
 abbrev pub reply_text : List ℕ → List ℕ → Reason → List ℕ → List ℕ
 reply_text file account reason text = codes "REFUSED " ++ file ++ codes "\n" ++ reason_text account reason text
-
-abbrev pub put_off_text : List ℕ → List ℕ
-put_off_text file = codes "PUT OFF " ++ file ++ codes "\nOUT OF MEMORY\n"

@@ -54,8 +54,3 @@ if_any count users = if length users == 0 then Err (count + 1, NoUser) else Ok u
 -- the users that a text gives, or its first line that is wrong, and why
 abbrev pub users_of : Bool → List Account → List ℕ → Result (List User) (ℕ × UsersFault)
 users_of several accounts text = and_then (walked (after_line several accounts) 1 [] (lines text)) (if_any (length (lines text)))
-
--- whose number stands with an account
-abbrev pub uid_of : List ℕ → List User → Option ℕ
-uid_of account [] = None
-uid_of account (user ∷ users) = if bytes_eq user.account account then Some user.uid else uid_of account users

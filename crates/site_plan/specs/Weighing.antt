@@ -1,15 +1,11 @@
--- Which texts of an account run in a round (own): each with which, and those before it, the account breaks no limit.
-use Rattle.std.specs.Prelude.{ℕ, ◌+◌, ◌==◌, Bool, true, false, not, ◌&&◌, List, [], ◌∷◌, map, Option, Some, None, option_map, is_some, if◌then◌else◌, bytes_eq}
-use Rattle.std.specs.List.{list_all}
+-- Which limit a text would break, if one (own): where none does, with what its account handed in before, it runs.
+use Rattle.std.specs.Prelude.{ℕ, ◌+◌, ◌==◌, Bool, true, false, ◌&&◌, Option, Some, None, option_map, if◌then◌else◌}
 use Rattle.preflight.specs.declared.tally.Tally.{Tally}
 use Rattle.preflight.specs.declared.quota.Limit.{Limit}
 use Rattle.preflight.specs.declared.quota.Limit.TheVariants.{Texts, Bytes, Jobs, Statements, Largest, Work, DataSets, Records}
 use Rattle.preflight.specs.declared.quota.Quota.{Quota}
 use Rattle.preflight.specs.declared.quota.HandedIn.{HandedIn}
 use Rattle.preflight.specs.Allowances.{broken_limit, with_text}
-use Rattle.preflight.specs.Tallies.{tally_of}
-use Rattle.site_plan.specs.declared.runs.Runs.{Runs}
-use Rattle.site_plan.specs.declared.owning.Holding.{Holding}
 use Rattle.site_plan.specs.declared.reason.Reason.{Reason}
 use Rattle.site_plan.specs.declared.reason.Reason.TheVariants as reason
 
@@ -54,21 +50,3 @@ abbrev pub weighed : Quota → HandedIn → Tally → Option Reason
 weighed limits handed tally =
     let after = with_text handed tally in
     option_map (λ limit. reason.Limit limit (amount limit after) (allowed limit limits)) (stopped_by limits after tally)
-
--- ---- the law of a desk
-
--- what an account has before the round's first text
-abbrev pub before : Holding → HandedIn
-before held = record { texts = 0; tally = tally_of [] 0; data_sets = held.data_sets; records = held.records }
-
-abbrev pub tallies : List Runs → List Tally
-tallies queue = map (λ runs. runs.submission.tally) queue
-
--- each text, with those before it, breaks no limit that stops it
-abbrev pub are_within : Quota → HandedIn → List Tally → Bool
-are_within limits handed [] = true
-are_within limits handed (tally ∷ tallies) = not (is_some (stopped_by limits (with_text handed tally) tally)) && are_within limits (with_text handed tally) tallies
-
--- each text is the account's
-abbrev pub are_of : List ℕ → List Runs → Bool
-are_of account queue = list_all (λ runs. bytes_eq runs.submission.account account) queue

@@ -4,15 +4,14 @@ ghost use Rattle.std.specs.Str.Lines.{lines};
 ghost use Rattle.mon_text.specs.Stops.{Gives};
 ghost use Rattle.mon_catalogue.specs.Progress.{lines_taken};
 ghost use Rattle.preflight.specs.Submissions.{IfStopped};
-ghost use Rattle.site_plan.specs.Catalogues.{version_of, after_line, is_ended, whole, sets_behind, catalogue_of, checksum_of};
+ghost use Rattle.site_plan.specs.Catalogues.{version_of, after_line, is_ended, whole, sets_behind, catalogue_of};
 
 use crate::lines::stop_at;
 use deck_syntax::{DeckError, finish_catalogue, first_line, put_account_line, put_catalogue_line};
 use mon_access::Accounts;
 use mon_catalogue::{Catalogue, Loading, Version};
 use mon_text::Stop;
-use sha2::{Digest, Sha256};
-use std::alloc::{AllocError, Global};
+use std::alloc::Global;
 
 /// No file has so many bytes.
 const MOST_BYTES: u64 = 1 << 63;
@@ -148,16 +147,4 @@ fn finish(loading: Loading, is_ended: bool, count: u64) -> Result<Catalogue, (u6
     } else {
         Err((count + 1, CatalogueFault::Unfinished))
     }
-}
-
-/// The checksum of a file's bytes: SHA-256, in 64 hexadecimal digits.
-///
-/// # Errors
-///
-/// Where a growth was refused.
-pub fn checksum(alloc: Global, bytes: &[u8]) -> Result<Vec<u8>, AllocError>
-    ensures { IfOk result (λ text. text.items ≡ checksum_of bytes.now) }
-{
-    let digits = hex::encode(alloc, Sha256::digest(bytes))?;
-    Vec::from_slice(alloc, digits.as_bytes())
 }

@@ -1,8 +1,10 @@
-//! Names of files: which are claimed, of which round or text a file is, and how a name is told to the operator.
+//! Names of files: which are claimed, and how a name is told.
 ghost use Rattle.std.specs.Prelude.{◌≡◌};
-ghost use Rattle.site_plan.specs.Names.{is_claimed, is_round_ending, is_of_plan, is_of_run};
+ghost use Rattle.std.specs.List.{list_all};
+ghost use Rattle.site_plan.specs.Names.{is_claimed, is_plain, is_shown, shown_name};
 
-use mon_text::read_count;
+/// How many characters a file's name has at the most to be shown.
+const MOST_SHOWN: usize = 64;
 
 /// Whether a file of this name is claimed from a box: it is hidden where the name begins with a point, and a copy that an editor keeps where
 /// it ends with a tilde.
@@ -12,60 +14,27 @@ pub fn is_claimed(name: &[u8]) -> bool
     !name.starts_with(b".".as_slice()) && !name.ends_with(b"~".as_slice())
 }
 
-/// The number of the round that a file of this name is of, also while it is written; none where it is no file of a round.
-pub fn round_number(name: &[u8]) -> Option<u64> {
-    let name = finished(name);
-    let point = name.iter().position(|byte| *byte == b'.')?;
-    if is_round_ending(&name[point..]) {
-        read_count(&name[..point]).ok()
-    } else {
-        None
-    }
-}
-
-/// The number of the text that an answer of this name is of, also while it is written; none where it is no answer.
-pub fn answer_number(name: &[u8]) -> Option<u64> {
-    read_count(finished(name).strip_suffix(b".out")?).ok()
-}
-
-/// The number that a file of this name has in the folder of claimed files, if it may be one.
-pub fn claimed_number(name: &[u8]) -> Option<u64> {
-    let front = match name.strip_suffix(b".alone") {
-        Some(front) => front,
-        None => name,
-    };
-    let point = front.iter().rposition(|byte| *byte == b'.')?;
-    read_count(&front[point + 1..]).ok()
-}
-
-// The name of a file once it is written.
-fn finished(name: &[u8]) -> &[u8] {
-    match name.strip_suffix(b".tmp") {
-        Some(name) => name,
-        None => name,
-    }
-}
-
-// Whether the name of a file of a round ends so, behind the number.
-fn is_round_ending(ending: &[u8]) -> bool
-    ensures { result ≡ is_round_ending ending.now }
+/// The name of a file as it is shown: itself where it is 1 to 64 letters, digits, points, underscores and hyphens, and else a hyphen.
+pub fn shown_name(name: &[u8]) -> &[u8]
+    ensures { result.now ≡ shown_name name.now }
 {
-    is_of_plan(ending) || is_of_run(ending)
+    if is_shown(name) { name } else { b"-" }
 }
 
-fn is_of_plan(ending: &[u8]) -> bool
-    ensures { result ≡ is_of_plan ending.now }
+fn is_shown(name: &[u8]) -> bool
+    ensures { result ≡ is_shown name.now }
 {
-    ending == b".plan".as_slice()
-        || ending == b".replies".as_slice()
-        || ending == b".deck".as_slice()
+    are_plain(name) && (1..=MOST_SHOWN).contains(&name.len())
 }
 
-fn is_of_run(ending: &[u8]) -> bool
-    ensures { result ≡ is_of_run ending.now }
+fn are_plain(name: &[u8]) -> bool
+    ensures { result ≡ list_all is_plain name.now }
 {
-    ending == b".out".as_slice()
-        || ending == b".parts".as_slice()
-        || ending == b".audit".as_slice()
-        || ending == b".done".as_slice()
+    name.iter().all(|byte| is_plain(*byte))
+}
+
+fn is_plain(byte: u8) -> bool
+    ensures { result ≡ is_plain byte }
+{
+    byte.is_ascii_alphanumeric() || byte == b'.' || byte == b'_' || byte == b'-'
 }

@@ -3,7 +3,7 @@ ghost use Rattle.std.specs.Prelude.{◌≡◌, ◌<◌, ◌≤◌, ◌++◌, [],
 ghost use Rattle.std.specs.Str.Lines.{lines};
 ghost use Rattle.mon_text.specs.Characters.{is_printable, is_blank};
 ghost use Rattle.site_plan.specs.Terms.{limit_name};
-ghost use Rattle.site_plan.specs.Replies.{is_no_blank, is_unprintable, is_never_good, first_bad, first_word, behind_word, second_word, mark_of, shown, shown_line, mark_line, line_at, heading, refusal_text, reason_text, reply_text, put_off_text};
+ghost use Rattle.site_plan.specs.Replies.{is_no_blank, is_unprintable, is_never_good, first_bad, first_word, behind_word, second_word, mark_of, shown, shown_line, mark_line, line_at, heading, refusal_text, reason_text, reply_text};
 
 use crate::lines::put_times;
 use crate::reason::Reason;
@@ -38,20 +38,6 @@ pub fn reply(
     reply.extend_from_slice(file)?;
     reply.extend_from_slice(b"\n")?;
     reply.extend_from_slice(&why)?;
-    Ok(reply)
-}
-
-/// What a user is told whose text is put off.
-///
-/// # Errors
-///
-/// Where a growth was refused.
-pub fn put_off_reply(alloc: Global, file: &[u8]) -> Result<Vec<u8>, AllocError>
-    ensures { IfOk result (λ reply. reply.items ≡ put_off_text file.now) }
-{
-    let mut reply = Vec::from_slice(alloc, b"PUT OFF ")?;
-    reply.extend_from_slice(file)?;
-    reply.extend_from_slice(b"\nOUT OF MEMORY\n")?;
     Ok(reply)
 }
 

@@ -2,7 +2,7 @@
 ghost use Rattle.std.specs.Prelude.{◌≡◌, Ok, Err, map, IfErr, OnOk};
 ghost use Rattle.mon_text.specs.Stops.{Gives};
 ghost use Rattle.preflight.specs.Submissions.{IfStopped};
-ghost use Rattle.site_plan.specs.Users.{uid_on, user_with, user_on, has_uid, has_account, with_user, with_known, after_line, users_of, uid_of};
+ghost use Rattle.site_plan.specs.Users.{uid_on, user_with, user_on, has_uid, has_account, with_user, with_known, after_line, users_of};
 
 use crate::lines::{is_skipped, stop_at};
 use deck_syntax::first_line;
@@ -182,16 +182,4 @@ fn has_account(users: &[User], account: &Name) -> bool
     ensures { result ≡ has_account account.now users.now }
 {
     users.iter().any(|user| &user.account == account)
-}
-
-/// The number of the user who has this account.
-pub fn uid_of_account(users: &[User], account: &Name) -> Option<u32>
-    ensures { result ≡ uid_of account.now users.now }
-{
-    for user in users {
-        if &user.account == account {
-            return Some(user.uid);
-        }
-    }
-    None
 }

@@ -55,4 +55,9 @@ pub trait MatchHost {
         requires { ready self.old }
         ensures told { WasGiven tells broken self.old (Assign variable.now taken) result self.new }
         ensures ready { ready self.new };
+
+    /// Whether the match is to be broken off, as where a growth is refused. It is asked now and then.
+    fn is_late(&self) -> bool {
+        false
+    }
 }

@@ -16,6 +16,9 @@ use sno_text::Node;
 use std::alloc::{AllocError, Global};
 use std::rc::Rc;
 
+/// After so many steps the host is asked whether it is late.
+const STEPS_BETWEEN: u64 = 65_536;
+
 /// Where goals come out, or how they end, and the steps that are left.
 #[derive(Drop)]
 pub(crate) struct Attempt {
@@ -43,7 +46,14 @@ pub(crate) fn run<H: MatchHost>(
     trail.clear();
     let mut turn = Turn::Meet(pattern.clone()?, start);
     let mut left = limit;
+    let mut passed = left / STEPS_BETWEEN;
     loop {
+        if left / STEPS_BETWEEN != passed {
+            passed = left / STEPS_BETWEEN;
+            if host.is_late() {
+                return Err(AllocError);
+            }
+        }
         match turn {
             Turn::Meet(node, at) => {
                 turn = meet(alloc, text, node, at, trail, &mut left, host)?;

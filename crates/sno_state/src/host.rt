@@ -51,6 +51,10 @@ impl<S: Service> MatchHost for Host<'_, S> {
             Err(Stop::Memory) => Err(Stop::Memory),
         }
     }
+
+    fn is_late(&self) -> bool {
+        self.service.is_late()
+    }
 }
 
 /// What a value stands for in a pattern.

@@ -7,25 +7,25 @@ mod access;
 #[cfg(test)]
 mod acl;
 #[cfg(test)]
+mod bounds;
+#[cfg(test)]
 mod calls;
 #[cfg(test)]
 mod catalogue;
 #[cfg(test)]
-mod crashes;
+mod checkpoints;
 #[cfg(test)]
 mod device;
 #[cfg(test)]
 mod errors;
 #[cfg(test)]
-mod fake;
-#[cfg(test)]
 mod feeding;
 #[cfg(test)]
 mod guard;
 #[cfg(test)]
-mod matching;
+mod life;
 #[cfg(test)]
-mod memory;
+mod matching;
 #[cfg(test)]
 mod monitor;
 #[cfg(test)]

@@ -2,7 +2,7 @@
 use Rattle.std.proofs.Common.{◌≡◌, ℕ, ◌+◌, Bool, true, false, List, [], ◌∷◌, ◌++◌, Option, Some, None, refl, sym, ap, ◌∙◌, append_assoc, append-nil}
 use Rattle.std.specs.{Prelude.{◌||◌, option_map}, Option.{option_or, option_map_or}, Str.Lines.{lines}}
 use Rattle.deck_lines.specs.declared.deck_error.DeckError.{DeckError}
-use Rattle.deck_reader.specs.Events.{event_in, open_after, refusal_in}
+use Rattle.deck_syntax.specs.Events.{event_in, open_after, refusal_in}
 use Rattle.deck_syntax.specs.{Decks.{Asked}, Sections.{Open, Closed, InList, InJob}}
 use Rattle.preflight.specs.{declared.why.Why.{Why}, declared.why.Why.TheVariants.{Line}, Examined.{IsSubmission, Verdict, Admits, Refuses}}
 use Rattle.preflight.{specs.inner.Reading.{asks_of, refused_to, why_in, and_then, all_then, at_end, examined}, proofs.Exactly.{admits_exactly}}

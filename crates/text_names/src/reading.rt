@@ -1,15 +1,14 @@
 //! A text is read line by line, as the reader of decks takes it: of each card the names of data sets are kept.
 ghost use Rattle.std.specs.Prelude.{◌≡◌, ℕ, ◌∷◌, ◌++◌, ◌||◌, [], List, None, map, IfOk, OnOk};
 ghost use Rattle.std.specs.Str.Lines.{lines};
-ghost use Rattle.deck_reader.specs.Events.{open_in, open_after, event_in, refusal_in};
+ghost use Rattle.deck_syntax.specs.Events.{open_in, open_after, event_in, refusal_in};
 ghost use Rattle.deck_syntax.specs.Decks.{Asked};
 ghost use Rattle.preflight.specs.Examined.{IsSubmission};
 ghost use Rattle.text_names.specs.Names.{Speaks, command_names, is_catalog};
 ghost use Rattle.text_names.specs.inner.Lines.{names_brought, all_brought, Follows};
 
 use deck_lines::Command;
-use deck_reader::{Event, StreamReader};
-use deck_syntax::{UnitCard, first_line};
+use deck_syntax::{Event, StreamReader, UnitCard, first_line};
 use mon_text::{Name, Stop};
 use parts::Text;
 use std::alloc::{AllocError, Global};

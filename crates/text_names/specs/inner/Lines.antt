@@ -1,6 +1,6 @@
 -- The names that a line brings, and what was found with it.
 use Rattle.std.specs.Prelude.{◌≡◌, ℕ, ◌++◌, ◌||◌, Bool, List}
-use Rattle.deck_reader.specs.declared.stream_reader.Event.{Event}
+use Rattle.deck_syntax.specs.declared.stream_reader.Event.{Event}
 use Rattle.deck_syntax.specs.Sections.{Open}
 use Rattle.preflight.specs.inner.Reading.{asks_of}
 use Rattle.text_names.specs.Names.{names_in, asks_all}

@@ -1,4 +1,4 @@
-use Rattle.ledger_checkpoint.proofs.Opened.{goes_on}
+use Rattle.ledger_checkpoint.proofs.Leading.{goes_on}
 use Rattle.ledger_checkpoint.proofs.laws.goes_on.Goals as goal
 
 pub returns : goal.returns

@@ -1,4 +1,4 @@
-use Rattle.ledger_checkpoint.proofs.Restricted.{pieces_stand}
+use Rattle.ledger_checkpoint.proofs.Picked.{pieces_stand}
 use Rattle.ledger_checkpoint.proofs.laws.pieces_stand.Goals as goal
 
 pub returns : goal.returns

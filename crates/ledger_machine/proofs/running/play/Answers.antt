@@ -1,9 +1,9 @@
-use Rattle.std.proofs.Common.{rules, ◌∙◌, refl, sym, subst}
+use Rattle.std.proofs.Common.{◌∙◌, sym, subst}
 use Rattle.std.specs.Str.Lines.{lines}
 use Rattle.mon_text.proofs.Cutting.{nothing_kept}
 use Rattle.mon_monitor.specs.Abstraction.{system_of}
 use Rattle.deck_syntax.specs.Sections.{Closed}
-use Rattle.deck_reader.specs.{declared.stream_reader.Event.{Event}, Events.{open_in}}
+use Rattle.deck_syntax.specs.{declared.stream_reader.Event.{Event}, Events.{open_in}}
 use Rattle.ledger_machine.{specs.Running.{place, Brings, asked_ahead}, proofs.Going.{stays, line_more, reached, ended, counted_to}}
 use Rattle.ledger_machine.proofs.running.play.Goals as goal
 
@@ -11,7 +11,6 @@ pub lines-init : goal.lines-init
 lines-init g c = record {
   reaches =
       stays (place c.args.running.now.jobs (asked_ahead Closed (lines c.args.text.now)) (system_of c.args.running.now.monitor) c.args.running.now.out.items (g.S.Sink.standing c.args.audit.now));
-  same = refl;
 }
 
 pub lines-preserved : goal.lines-preserved
@@ -27,7 +26,6 @@ lines-preserved g c =
           c.lines.rest.now c.first_line.result.0.now c.first_line.result.1.now c.first_line.ensures.parts c.in_ok-event.ensures.after c.lines.invariant.reaches
           (subst (λ (event : Event). Brings event old.jobs (system_of old.monitor) old.out.items a new.jobs (system_of new.monitor) new.out.items b) c.in_ok-event.ensures.event
           c.in_ok-happen.ensures);
-      same = c.in_ok-look.ensures.stays ∙ c.lines.invariant.same;
     }
 
 pub returns-clause-printed : goal.returns-clause-printed
@@ -65,6 +63,3 @@ returns-clause-counted g c =
     let none = nothing_kept c.lines.rest.now (sym c.is_empty.ensures ∙ c.lines-test.false) in
     counted_to first at.jobs (system_of at.monitor) at.out.items a
     (reached first at.jobs (system_of at.monitor) at.out.items a (open_in c.lines.reader) c.lines.rest.now none c.lines.invariant.reaches)
-
-pub returns-clause-within : goal.returns-clause-within
-returns-clause-within g c = let a = c.lines.invariant.same in let b = c.in_ok-look-2.ensures.within in search (rules, a, b)

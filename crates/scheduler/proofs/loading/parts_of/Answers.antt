@@ -7,6 +7,5 @@ returns-clause-units c =
     let lines = c.args.lines.now in
     c.in_ok-units.ensures
     ∙ ap (λ (behind : List (List ℕ)). with_ties c.args.ties.now (new_units behind))
-    (c.in_ok-data.ensures
-    ∙ (λ k. drop (c.data_from.ensures k) (c.as_slice.ensures k))
+    ((λ k. drop (c.data_from.ensures k) lines)
     ∙ sym (ap (λ (read : Result ProgramText SyntaxError). option_map_or (λ good. drop good.data_from lines) (result_ok read) []) c.in_ok-cards.ensures.cards))

@@ -1,6 +1,6 @@
 use Rattle.std.proofs.Common.{ℕ, List, false, sym, subst, ◌∙◌}
 use Rattle.mon_text.proofs.Cutting.{nothing_kept}
-use Rattle.deck_reader.specs.Events.{open_in}
+use Rattle.deck_syntax.specs.Events.{open_in}
 use Rattle.deck_syntax.specs.Sections.{Closed}
 use Rattle.text_names.proofs.Reached.{Reached, at_first, line_more, at_last}
 use Rattle.text_names.proofs.reading.names_in.Goals as goal

@@ -1,6 +1,6 @@
 -- After the lines so far the rest of the text stands where the reader says.
 use Rattle.std.proofs.Common.{length}
-use Rattle.deck_reader.specs.Events.{open_in}
+use Rattle.deck_syntax.specs.Events.{open_in}
 use Rattle.text_names.proofs.Reached.{Reached}
 use Rattle.text_names.proofs.reading.names_in.Given as goal
 

@@ -1,0 +1,12 @@
+//! What is done to the folder of a site over and over: it is run, looked at and verified.
+#![tactic(auto)]
+
+pub mod checkpoints;
+pub mod folders;
+pub mod running;
+pub mod serving;
+pub mod status;
+
+pub use running::{Report, run_site};
+pub use serving::refuse_full;
+pub use status::{Standing, Verified, Waiting, standing_of, verify};

@@ -1,8 +1,0 @@
-use Rattle.std.proofs.Common.{◌≡◌, ◌+◌, take}
-use Rattle.std.specs.List.{sum_by}
-use Rattle.preflight.specs.Allowances.{told64}
-use Rattle.rounds.specs.Late.{reply_bytes}
-use Rattle.rounds.proofs.late.reply_bytes_of.Given as goal
-
-abbrev pub invariant-loop-entry : goal.invariant-loop-entry
-invariant-loop-entry l = l.bytes ≡ told64 (0 + sum_by (λ entry. reply_bytes entry.verdict) (take l.entry-index l.entries))

@@ -1,9 +1,0 @@
-mod Going
-mod Giving
-mod Acting
-mod Paying
-mod Committing
-mod Back
-mod Owing
-mod Remembering
-mod Pieces
