@@ -8,7 +8,7 @@ Each block of code there has a mark. `file NAME` is put into the folder under th
 the commands before it print. Commands without an `output` behind them print nothing.
 
 Blocks marked `root` are run as `sh` is, by root: a page with one is followed in a place of its own, where /etc is a copy, and /home
-and /srv are empty. Where that cannot be made, such a page is left out."""
+and /srv are empty. Where that cannot be made, or such a page calls setfacl and that is not there, it is left out."""
 from __future__ import annotations
 
 import contextlib
@@ -67,7 +67,7 @@ def printed(there: List[str], folder: str, path: str, commands: str) -> str:
 
 def site() -> str:
     """The program snomon-site itself: each user can run a copy of it, wherever this repository is."""
-    return os.environ.get('SITE') or subprocess.run([os.path.join(TOP, 'tools', 'proved'), '--path', 'site'], check=True,
+    return os.environ.get('SITE') or subprocess.run([os.path.join(TOP, 'tools', 'proved'), '--path', 'ledger_program'], check=True,
                                                     stdout=subprocess.PIPE).stdout.decode().strip()
 
 
@@ -76,6 +76,11 @@ def lacks_parts(text: str) -> bool:
     proved = [os.path.join(TOP, 'tools', 'proved'), '--path', 'snomon_parts']
     return 'snomon-parts' in text and not os.environ.get('SNOMON_PARTS') and subprocess.run(
         proved, stdout=subprocess.DEVNULL, stderr=subprocess.DEVNULL).returncode != 0
+
+
+def lacks_setfacl(text: str) -> bool:
+    """Whether root of a page lets users in by setfacl, and that program is not there."""
+    return is_for_root(text) and 'setfacl -m' in text and not shutil.which('setfacl')
 
 
 def linked(programs: str, program: str, text: str) -> str:
@@ -126,6 +131,9 @@ def main(program: str, pages: List[str]) -> int:
             continue
         if lacks_parts(text):
             print(f'left out {page}: there is no snomon-parts')
+            continue
+        if lacks_setfacl(text):
+            print(f'left out {page}: there is no setfacl')
             continue
         for fault in followed(program, text):
             failed = 1

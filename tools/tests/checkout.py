@@ -21,7 +21,7 @@ printf '#!/bin/sh\\necho "$@"; cat\\n' >out/snomon
 chmod +x out/snomon
 '''
 PROGRAM = 'crates/snomon/out/snomon'
-PROGRAMS = ('snomon', 'listing', 'site', 'snomon_parts')
+PROGRAMS = ('snomon', 'listing', 'ledger_program', 'snomon_parts')
 BY_HAND = b'#!/bin/sh\necho by hand\n'
 OF_THE_GATE = b'#!/bin/sh\necho of the gate "$@"\n'
 RELEASED = b'#!/bin/sh\necho released "$@"\n'
@@ -40,18 +40,19 @@ def without_rt() -> Dict[str, str]:
 class Checkout(Trying):
     def setUp(self) -> None:
         super().setUp()
-        for name in ('tools', 'examples', 'bin', 'crates/snomon/src', 'crates/listing/src', 'crates/site/src', 'crates/snomon_parts/src',
+        for name in ('tools', 'examples', 'bin', 'crates/snomon/src', 'crates/listing/src', 'crates/ledger_program/src', 'crates/snomon_parts/src',
                      'crates/mon_low/specs', 'crates/other/src'):
             os.makedirs(self.path(name))
-        for name in ('run', 'bin/snomon-listing', 'bin/snomon-site', 'bin/snomon-parts', 'bin/snomon-deck', 'install', 'tools/proved', 'tools/release', 'tools/deck', 'tools/package', 'examples/payroll.deck',
-                     'LICENSE', 'CHANGELOG.md', 'SECURITY.md'):
+        for name in ('run', 'bin/snomon-listing', 'bin/snomon-site', 'bin/snomon-parts', 'bin/snomon-deck', 'install', 'tools/proved',
+                     'tools/release', 'tools/deck', 'tools/package', 'examples/payroll.deck', 'LICENSE', 'CHANGELOG.md', 'SECURITY.md'):
             shutil.copy(os.path.join(TOP, name), self.path(name))
         for name in ('tools/decks', 'docs/man', 'examples/site', 'packaging'):
             shutil.copytree(os.path.join(TOP, name), self.path(name))
-        self.write('crates.txt', b'# crates\nmon_low: thiserror\nsnomon: mon_low clap\nlisting: mon_low\nsite: mon_low\nsnomon_parts: mon_low\nother: mon_low\n')
+        self.write('crates.txt', b'# crates\nmon_low: thiserror\nsnomon: mon_low clap\nlisting: mon_low\nledger_program: mon_low\n'
+                   b'snomon_parts: mon_low\nother: mon_low\n')
         self.write('HANDLES', b'Handles allowed: none.\n')
-        for name in ('crates/snomon/src/main.rt', 'crates/listing/src/main.rt', 'crates/site/src/main.rt', 'crates/snomon_parts/src/main.rt', 'crates/mon_low/specs/Low.antt',
-                     'crates/other/src/lib.rt'):
+        for name in ('crates/snomon/src/main.rt', 'crates/listing/src/main.rt', 'crates/ledger_program/src/main.rt',
+                     'crates/snomon_parts/src/main.rt', 'crates/mon_low/specs/Low.antt', 'crates/other/src/lib.rt'):
             self.write(name, b'one\n')
         self.write('version', b'kit 1\n')
         self.script('bin/rt', RT.encode())

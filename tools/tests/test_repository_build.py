@@ -130,7 +130,7 @@ class Built(Checkout):
         path = one.encode()
         for words, wanted in ((('listing', one), b'\nfirst\n'), (('listing', '--access', '--set', one), b'--access --set %s\n' % path),
                               (('listing', '--account', one, one), b'--account %s\nfirst\n' % path), (('listing', '--slots', one), b'--slots\nfirst\n'),
-                              (('site', 'check', one), b'check %s\n' % path), (('site', one), path + b'\n'),
+                              (('ledger_program', 'check', one), b'check %s\n' % path), (('ledger_program', one), path + b'\n'),
                               (('snomon_parts', 'split', one), b'split %s\n' % path)):
             self.assertEqual(self.proved(*words).out, wanted, words)
 
@@ -196,7 +196,7 @@ class Built(Checkout):
         for words in ((), ('other',), ('--sum', 'other', 'kit 1'), ('../snomon',)):
             done = self.proved(*words)
             self.assertEqual((done.status, done.out, self.builds()), (2, b'', 0))
-            self.assertIn('the programs are snomon, listing, site and snomon_parts', done.err)
+            self.assertIn('the programs are snomon, listing, ledger_program and snomon_parts', done.err)
 
     def test_a_checkout_that_cannot_be_written_says_so(self) -> None:
         self.write('out', b'')

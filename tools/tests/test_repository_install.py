@@ -52,7 +52,7 @@ class Installed(Checkout):
         unit = self.read('there/lib/systemd/system/snomon-site.service').decode()
         self.assertIn(f'\nExecStart={os.path.realpath(self.there)}/bin/snomon-site run /srv/snomon\n', unit)
         self.assertNotIn('/usr/local', unit)
-        self.assertIn('\nTimeoutStartSec=infinity\n', unit) # a round that is ended begins again with its first text
+        self.assertIn('\nTimeoutStartSec=infinity\n', unit) # a run takes as long as its submissions
         self.assertIn('lib/systemd/system/snomon-site.timer', self.files())
 
     def test_a_staged_install_names_the_places_that_it_will_have(self) -> None:

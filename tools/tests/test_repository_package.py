@@ -57,7 +57,8 @@ class Versions(unittest.TestCase):
             if origin.status:
                 self.skipTest(f'there is no {program}')
             printed = run([run([script, '--path', program]).out.decode().strip(), '--version'])
-            self.assertRegex(printed.out.decode() + printed.err, rf'^snomon(-{program.replace("snomon_", "")})? {re.escape(VERSION)}\n$')
+            name = {'snomon': 'snomon', 'ledger_program': 'snomon-site'}.get(program, 'snomon-' + program.replace('snomon_', ''))
+            self.assertEqual(printed.out.decode() + printed.err, f'{name} {VERSION}\n')
             if b'\norigin     released\n' in origin.out:
                 self.assertIn(f'\ncommit     {commit}\n', origin.out.decode())
 

@@ -1,4 +1,4 @@
-"""The unit of a site: how little it leaves open, and that the calls of a round are those that it allows."""
+"""The unit of a site: how little it leaves open, and that the calls of a run are those that it allows."""
 from __future__ import annotations
 
 import ctypes
@@ -9,8 +9,8 @@ import re
 import shutil
 import unittest
 from typing import Any, Dict, Iterable, List, Set, Tuple
+from ledger_attacking import LIST, OfAnOperator
 from trying import Done, TOP, Trying, run
-from sites import OperatorTrying, LIST, SITE
 
 UNIT = os.path.join(TOP, 'examples', 'site', 'snomon-site.service')
 MOST_EXPOSED = 1.0  # of 10
@@ -67,29 +67,28 @@ class Unit(Trying):
         self.assertNotEqual(linking, text_of(UNIT))
         self.assertLess(self.exposed(self.write('linking.service', linking.encode()))[0], MOST_EXPOSED)
 
-    def test_the_calls_of_a_round_are_allowed(self) -> None:
+    def test_the_calls_of_a_run_are_allowed(self) -> None:
         self.assertEqual(sorted(CALLS - allowed()), [])
 
     def test_no_call_that_needs_a_privilege_is_allowed(self) -> None:
         self.assertEqual(allowed() & {'chown', 'lchown', 'setuid', 'mount', 'ptrace', 'socket', 'connect', 'kill', 'clone', 'fork', 'bpf'}, set())
 
 
-@unittest.skipUnless(os.path.exists(SITE), 'there is no site')
-@unittest.skipUnless(os.geteuid() == 0, 'an operator and two users can only be tried as root')
-class Round(OperatorTrying):
-    """Rounds as the unit has them run: of an operator who is not root, and under the unit's mask."""
+class Run(OfAnOperator):
+    """As the unit has it: of an operator who is not root, and under the unit's mask."""
 
     def setUp(self) -> None:
         super().setUp()
-        self.drops('anna', 'a.job', b"$JOB anna\n  OUTPUT = 'hello'\nEND\n$EOJ\n" + LIST % b'anna')
-        self.drops('lisa', 'refused', b'$STOP\n')
+        self.drop('anna', 'a.job', b"$JOB anna\n  OUTPUT = 'hello'\nEND\n$EOJ\n" + LIST % b'anna')
+        self.drop('lisa', 'refused', b'$STOP\n')
 
     def ran(self, words: Iterable[str] = (), **more: Any) -> None:
         """Both users read what they got, and nobody else does."""
-        done = run([*words, self.program, 'run', self.folder], cwd='/', user=self.operator, group=self.operator, extra_groups=[], umask=0o077, **more)
-        self.assertEqual((done.status, done.out), (1, b'round 1: 1 run, 1 refused\n'), done.err)
-        for account, answer in (('anna', '00000001.out'), ('lisa', '00000002.out')):
-            path = f'{self.folder}/out/{account}/{answer}'
+        done = run([*words, self.program, 'run', self.folder], cwd='/', **{**self.as_operator(), 'umask': 0o077}, **more)
+        self.assertEqual((done.status, done.out), (1, b'1 run, 1 refused\n'), done.err)
+        for account in self.users:
+            name, = os.listdir(f'{self.folder}/out/{account}')
+            path = f'{self.folder}/out/{account}/{name}'
             self.assertEqual([self.as_user(name, 'cat "$1"', path) == 0 for name in ('anna', 'lisa')], [account == name for name in ('anna', 'lisa')])
 
     def test_its_calls_are_those_that_are_listed(self) -> None:

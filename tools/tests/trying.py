@@ -25,6 +25,9 @@ def proved(name: str) -> str:
 PARTS = os.environ.get('SNOMON_PARTS') or proved('snomon_parts')
 os.environ['SNOMON_PARTS'] = ''  # what snomon-deck does by itself is tried, but where a test names the program
 SNOMON = os.path.abspath(os.environ.get('SNOMON', os.path.join(TOP, 'run')))
+# The program of a site itself, which other users can run a copy of; nothing where it isn't there.
+SITE = os.environ.get('SITE') or proved('ledger_program')
+SITE = SITE and os.path.abspath(SITE)
 MEASURED = ('import resource, subprocess, sys; status = subprocess.call(sys.argv[1:]); '
             'print(resource.getrusage(resource.RUSAGE_CHILDREN).ru_maxrss, status)')
 NO_WORDS: List[str] = []
