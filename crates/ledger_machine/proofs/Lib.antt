@@ -6,3 +6,4 @@ pub mod Happening
 pub mod Going
 pub mod Playing
 pub mod Small
+pub mod Narrow

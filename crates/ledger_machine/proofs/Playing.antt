@@ -22,6 +22,10 @@ may_hand_in kept own text asked is account same =
     (subst (λ (ls : List (List ℕ)). IsSubmission own ls asked) same (subst (λ (a : List ℕ). IsSubmission a (lines_of kept) asked) account is.is)) in
     admits ∙ ap Admits (ahead own (lines text) 1 Closed asked admits)
 
+-- it asks for what its lines ask for
+pub asks_ahead : (kept : Submission) (asked : List Asked) → IsAdmitted kept asked → asked ≡ asked_ahead Closed (lines_of kept)
+asks_ahead kept asked is = ahead kept.account (lines_of kept) 1 Closed asked ((admits_exactly kept.account (lines_of kept) asked).1 is.is)
+
 -- so the step of its file is this
 pub step_is : (file line own text : List ℕ) (site : Site) (accounts : List Account) → lines file ≡ line ∷ lines text → own ≡ line
     → examined own 1 Closed (lines text) ≡ Admits (asked_ahead Closed (lines text)) → accounts_of site ≡ Some accounts

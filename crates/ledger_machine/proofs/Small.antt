@@ -80,12 +80,12 @@ short_fields : (changes : List Said) → AllByRecursion (λ field. length field 
 short_fields [] all = tt
 short_fields (said ∷ changes) all = (short (fields_of 0 said) all.0, short_fields changes all.1)
 
-pub small : (jobs : ℕ) (audit : List ℕ) (before after : Sets) → IsStored before → jobs < 2 ^ 63 → length (change_text (run_changes jobs audit before after)) < 2 ^ 63
+pub small : (jobs : ℕ) (audit : List ℕ) (before after : Sets) → AllByRecursion IsStoredSet before → jobs < 2 ^ 63 → length (change_text (run_changes jobs audit before after)) < 2 ^ 63
     → AreSmall (run_changes jobs audit before after)
 small jobs audit before after stored few less =
     let texts : AreShort (map said_text (run_changes jobs audit before after)) = short (map said_text (run_changes jobs audit before after)) less in
     record {
-      numbers = ((few, tt), few_between before after stored.1);
+      numbers = ((few, tt), few_between before after stored);
       fields = short_fields (run_changes jobs audit before after) texts.1;
       texts = texts;
     }

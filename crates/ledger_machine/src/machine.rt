@@ -13,7 +13,9 @@ ghost use Rattle.mon_monitor.specs.Audit.{audit_of};
 ghost use Rattle.deck_run.specs.Laws.{jobs_in};
 ghost use Rattle.ledger_machine.specs.Running.{asked_events, asked_ahead};
 ghost use Rattle.ledger_machine.specs.Steps.{good_of, step_asked, step_at};
-ghost use Rattle.ledger_machine.specs.Written.{IsWrittenAsked, LeavesWritten};
+ghost use Rattle.ledger_machine.specs.Written.{IsWrittenAsked, LeavesWritten, site_over};
+ghost use Rattle.ledger_sets.specs.Applying.{Site};
+ghost use Rattle.ledger_sets.specs.Parts.{those_of};
 ghost use Rattle.ledger_sets.specs.Changes.{run_changes, change_text};
 ghost use Rattle.ledger_sets.specs.Laws.{AreSmall};
 ghost use Rattle.mon_catalogue.specs.Stored.{IsStored, ArePrintable};
@@ -22,8 +24,10 @@ use crate::running::{Running, play};
 use crate::watched_audit::WatchedAudit;
 use crate::watching::{Unwatched, Watch};
 use deck_syntax::first_line;
+use ledger_frames::enough_for;
+use ledger_frames::laws::some_are_enough;
 use ledger_run::{LedgerError, Outcome};
-use ledger_sets::{State, run_change};
+use ledger_sets::{Part, State, run_change};
 use mon_access::Accounts;
 use mon_catalogue::Catalogue;
 use mon_device::TextSink;
@@ -79,16 +83,28 @@ pub fn run_watched<W: Watch>(
     let (line, text) = first_line(file);
     let own = read_own(line)?;
     let kept = examined(alloc, &own, text)?;
-    drop(kept);
     let accounts = read_accounts(alloc, &state.tables.accounts)?;
-    run_over(Means { alloc, seed }, accounts, state, text, watch)
+    let which = enough_for(alloc, &kept)?;
+    let over = Part {
+        catalogue: &state.catalogue,
+        which: &which,
+    };
+    state.catalogue.reads_back();
+    some_are_enough();
+    let means = Means {
+        alloc,
+        seed,
+        jobs: state.jobs,
+    };
+    run_over(means, accounts, over, text, watch)
 }
 
-// Of what a run takes its memory, and by what hash it finds what jobs name.
+// Of what a run takes its memory, by what hash it finds what jobs name, and how many jobs ran before.
 #[derive(Clone, Copy)]
 struct Means {
     alloc: Global,
     seed: Seed,
+    jobs: u64,
 }
 
 // Whose text it is.
@@ -124,57 +140,60 @@ fn read_accounts(alloc: Global, table: &[u8]) -> Result<Accounts, LedgerError>
     }
 }
 
-fn copy_of(catalogue: &Catalogue) -> Result<Catalogue, LedgerError>
-    ensures { IfOk result (λ copy. copy ≡ catalogue.now) }
+fn copy_of(alloc: Global, over: Part<'_>) -> Result<Catalogue, LedgerError>
+    ensures { IfOk result (λ copy. copy ≡ those_of over.entry.which.now over.entry.catalogue.now) }
 {
-    match catalogue.clone() {
+    match over.copy(alloc) {
         Ok(copy) => Ok(copy),
         Err(_) => Err(LedgerError::from(AllocError)),
     }
 }
 
-// Runs a text that was examined.
+// Runs a text that was examined, over a copy of these data sets.
 fn run_over<W: Watch>(
     means: Means,
     accounts: Accounts,
-    state: &State,
+    over: Part<'_>,
     text: &[u8],
     watch: &W,
 ) -> Result<Outcome, LedgerError>
-    ensures told { IfOk result (λ outcome. step_asked (site_of state.now) accounts (asked_ahead Closed (lines text.now))
+    ensures told { (site : Site) → IfOk result (λ outcome.
+        step_asked (site_over site means.jobs (those_of over.entry.which.now over.entry.catalogue.now)) accounts (asked_ahead Closed (lines text.now))
         ≡ (outcome.printout.items, outcome.change.items)) }
-    ensures written { OnOk result (IsWrittenAsked (site_of state.now) accounts (asked_ahead Closed (lines text.now))) }
+    ensures written { (site : Site) → OnOk result (IsWrittenAsked
+        (site_over site means.jobs (those_of over.entry.which.now over.entry.catalogue.now)) accounts (asked_ahead Closed (lines text.now))) }
     ensures within { IfOk result (λ outcome. length outcome.printout.items ≤ W.most watch.now) }
 {
     let alloc = means.alloc;
-    let sets = copy_of(&state.catalogue)?;
-    let monitor = Monitor::new(alloc, means.seed, accounts, sets, 4)?;
+    let copy = copy_of(alloc, over)?;
+    let monitor = Monitor::new(alloc, means.seed, accounts, copy, 4)?;
     let out = Vec::new(alloc);
     let mut told = Vec::new(alloc);
     let mut running = Running {
         monitor,
-        jobs: state.jobs,
+        jobs: means.jobs,
         out,
     };
     play_to(&mut running, alloc, text, &mut told, watch)?;
     let Running { monitor, jobs, out } = running;
-    let change = change_of(alloc, jobs, &told, &state.catalogue, monitor.catalogue())?;
+    let change = change_of(alloc, jobs, &told, over, monitor.catalogue())?;
     Ok(Outcome {
         printout: out,
         change,
     })
 }
 
-// What a run changed of one catalogue, which became another, and told. It can be written, as the catalogue can.
+// What a run changed of these data sets, which became those of a catalogue, and told. It can be written, as these can.
 fn change_of(
     alloc: Global,
     jobs: u64,
     told: &[u8],
-    before: &Catalogue,
+    before: Part<'_>,
     after: &Catalogue,
 ) -> Result<Vec<u8>, LedgerError>
-    ensures is { IfOk result (λ change. change.items ≡ change_text (run_changes jobs told.now before.now after.now)) }
-    ensures small { OnOk result (AreSmall (run_changes jobs told.now before.now after.now)) }
+    ensures is { IfOk result (λ change. change.items
+        ≡ change_text (run_changes jobs told.now (those_of before.entry.which.now before.entry.catalogue.now) after.now)) }
+    ensures small { OnOk result (AreSmall (run_changes jobs told.now (those_of before.entry.which.now before.entry.catalogue.now) after.now)) }
     ensures stored { OnOk result (IsStored after.now) }
     ensures printable { OnOk result (ArePrintable after.now) }
 {
@@ -185,7 +204,7 @@ fn change_of(
     if change.len() as u64 >= LIMIT {
         return Err(LedgerError::Refused);
     }
-    before.reads_back();
+    before.catalogue.reads_back();
     after.reads_back();
     Ok(change)
 }

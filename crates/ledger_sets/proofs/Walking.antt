@@ -34,14 +34,11 @@ none_past i xs inside none =
 texts_behind : (xs ys : List Said) → said_texts (xs ++ ys) ≡ said_texts xs ++ said_texts ys
 texts_behind xs ys = map-append said_text xs ys
 
-module _ (before after : Sets) (place met : ℕ) (old : List ℕ × DataSet) (out now : List (List ℕ)) (stood : Some old ≡ slice_get before place) where
-  abbrev behind : Sets
-  behind = drop (place + 1) before
-
+module _ (here behind after : Sets) (met : ℕ) (old : List ℕ × DataSet) (out now : List (List ℕ)) (begins : here ≡ old ∷ behind) where
   pub met_again : (new : List ℕ × DataSet) → Some new ≡ slice_get after met → pointwise nat_eq old.0 new.0 ≡ true → now ≡ out ++ said_texts (changed old.0 old.1 new.1)
-      → out ++ said_texts (changes_between (drop place before) (drop met after)) ≡ now ++ said_texts (changes_between behind (drop (met + 1) after))
+      → out ++ said_texts (changes_between here (drop met after)) ≡ now ++ said_texts (changes_between behind (drop (met + 1) after))
   met_again new stands same is =
-      ap (λ (l : Sets). out ++ said_texts (changes_between l (drop met after))) (at_place place before old stood)
+      ap (λ (l : Sets). out ++ said_texts (changes_between l (drop met after))) begins
       ∙ ap (λ (l : Sets). out ++ said_texts (changes_between (old ∷ behind) l)) (at_place met after new stands)
       ∙ ap (λ (b : Bool). out ++ said_texts (if b then changed old.0 old.1 new.1 ++ changes_between behind (drop (met + 1) after) else gone old ∷ changes_between behind (new ∷ drop (met + 1) after))) same
       ∙ ap (λ (l : List (List ℕ)). out ++ l) (texts_behind (changed old.0 old.1 new.1) (changes_between behind (drop (met + 1) after)))
@@ -49,9 +46,9 @@ module _ (before after : Sets) (place met : ℕ) (old : List ℕ × DataSet) (ou
       ∙ ap (λ (l : List (List ℕ)). l ++ said_texts (changes_between behind (drop (met + 1) after))) (sym is)
 
   pub gone_before : (new : List ℕ × DataSet) → Some new ≡ slice_get after met → pointwise nat_eq old.0 new.0 ≡ false → now ≡ out ++ said_text (gone old) ∷ []
-      → out ++ said_texts (changes_between (drop place before) (drop met after)) ≡ now ++ said_texts (changes_between behind (drop met after))
+      → out ++ said_texts (changes_between here (drop met after)) ≡ now ++ said_texts (changes_between behind (drop met after))
   gone_before new stands apart is =
-      ap (λ (l : Sets). out ++ said_texts (changes_between l (drop met after))) (at_place place before old stood)
+      ap (λ (l : Sets). out ++ said_texts (changes_between l (drop met after))) begins
       ∙ ap (λ (l : Sets). out ++ said_texts (changes_between (old ∷ behind) l)) (at_place met after new stands)
       ∙ ap (λ (b : Bool). out ++ said_texts (if b then changed old.0 old.1 new.1 ++ changes_between behind (drop (met + 1) after) else gone old ∷ changes_between behind (new ∷ drop (met + 1) after))) apart
       ∙ ap (λ (l : Sets). out ++ said_text (gone old) ∷ said_texts (changes_between behind l)) (sym (at_place met after new stands))
@@ -59,17 +56,17 @@ module _ (before after : Sets) (place met : ℕ) (old : List ℕ × DataSet) (ou
       ∙ ap (λ (l : List (List ℕ)). l ++ said_texts (changes_between behind (drop met after))) (sym is)
 
   pub gone_last : None ≡ slice_get after met → now ≡ out ++ said_text (gone old) ∷ []
-      → out ++ said_texts (changes_between (drop place before) (drop met after)) ≡ now ++ said_texts (changes_between behind (drop met after))
+      → out ++ said_texts (changes_between here (drop met after)) ≡ now ++ said_texts (changes_between behind (drop met after))
   gone_last none is =
-      ap (λ (l : Sets). out ++ said_texts (changes_between l (drop met after))) (at_place place before old stood)
+      ap (λ (l : Sets). out ++ said_texts (changes_between l (drop met after))) begins
       ∙ ap (λ (l : Sets). out ++ said_texts (changes_between (old ∷ behind) l)) (none_left met after none)
       ∙ ap (λ (l : Sets). out ++ said_text (gone old) ∷ said_texts (changes_between behind l)) (sym (none_left met after none))
       ∙ sym (append_assoc out (said_text (gone old) ∷ []) (said_texts (changes_between behind (drop met after))))
       ∙ ap (λ (l : List (List ℕ)). l ++ said_texts (changes_between behind (drop met after))) (sym is)
 
 -- none is left
-pub all_met : (before after : Sets) (place met : ℕ) → length before ≤ place → said_texts (changes_between (drop place before) (drop met after)) ≡ said_texts (map whole (drop met after))
-all_met before after place met end = ap (λ (l : Sets). said_texts (changes_between l (drop met after))) (drop_all place before end)
+pub all_met : (after : Sets) (met : ℕ) (left : Sets) → left ≡ [] → said_texts (changes_between left (drop met after)) ≡ said_texts (map whole (drop met after))
+all_met after met left none = ap (λ (l : Sets). said_texts (changes_between l (drop met after))) none
 
 pub all_new : (after : Sets) (place : ℕ) → length after ≤ place → said_texts (map whole (drop place after)) ≡ []
 all_new after place end = ap (λ (l : Sets). said_texts (map whole l)) (drop_all place after end)

@@ -2,4 +2,5 @@ pub mod Changes
 pub mod Writing
 pub mod Applying
 pub mod Seeing
+pub mod Parts
 pub mod Laws

@@ -191,8 +191,9 @@ fn set(
     }
 }
 
+// Puts a data set under this name: in the place of the one that is there, or behind all.
 #[tactic(auto, using(crate::proofs::Made::put_there))]
-fn put_set(
+pub(crate) fn put_set(
     alloc: Global,
     name: Name,
     set: DataSet,

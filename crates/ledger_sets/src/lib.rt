@@ -5,6 +5,7 @@
 mod applying;
 mod heads;
 pub mod laws;
+pub mod part;
 mod reading;
 mod records;
 mod sets;
@@ -12,5 +13,6 @@ pub mod site;
 pub mod writing;
 
 pub use applying::apply_change;
+pub use part::{Part, Which};
 pub use site::{NoChange, State, Tables};
 pub use writing::{rest_change, run_change, sets_change, tables_change, whole_change};

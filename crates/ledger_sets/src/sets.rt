@@ -3,60 +3,64 @@ ghost use Rattle.std.specs.Prelude.{◌≡◌, ◌<◌, ◌+◌, ◌++◌, ◌�
 ghost use Rattle.mon_catalogue.specs.Text.{text_of};
 ghost use Rattle.ledger_text.specs.Records.{Keep, Gone};
 ghost use Rattle.ledger_sets.specs.Changes.{whole, changed, said_text, changes_between};
+ghost use Rattle.ledger_sets.specs.Parts.{those_of};
 ghost use Rattle.ledger_sets.specs.Writing.{texts_in, said_texts};
 
 use crate::heads::{head_text, same_head};
+use crate::part::Part;
 use crate::records::{records_text, shared};
 use ledger_text::{Record, record_text};
 use mon_catalogue::{Catalogue, DataSet, Records};
 use mon_text::Name;
 use std::alloc::{AllocError, Global};
 
-// Appends the texts of the changes from one catalogue to another.
+// Appends the texts of the changes from these data sets to those of a catalogue.
 pub(crate) fn put_changes(
     alloc: Global,
-    before: &Catalogue,
+    before: Part<'_>,
     after: &Catalogue,
     out: &mut Vec<Vec<u8>>,
 ) -> Result<(), AllocError>
-    ensures { OnOk result (texts_in out.new.items ≡ texts_in out.old.items ++ said_texts (changes_between before.now after.now)) }
+    ensures { OnOk result (texts_in out.new.items ≡ texts_in out.old.items
+        ++ said_texts (changes_between (those_of before.entry.which.now before.entry.catalogue.now) after.now)) }
 {
     let met = put_met(alloc, before, after, out)?;
     put_new(alloc, after, met, out)
 }
 
 // For each data set that was: whether it is met again, and what changed of it; and how many are met.
-#[tactic(auto, using(crate::proofs::Walking::all_met))]
+#[tactic(auto, using(crate::proofs::Walking::all_met, crate::proofs::Copying::none_of))]
 fn put_met(
     alloc: Global,
-    before: &Catalogue,
+    before: Part<'_>,
     after: &Catalogue,
     out: &mut Vec<Vec<u8>>,
 ) -> Result<usize, AllocError>
-    ensures { IfOk result (λ met. texts_in out.old.items ++ said_texts (changes_between before.now after.now)
+    ensures { IfOk result (λ met. texts_in out.old.items ++ said_texts (changes_between (those_of before.entry.which.now before.entry.catalogue.now) after.now)
         ≡ texts_in out.new.items ++ said_texts (map whole (drop met after.now))) }
 {
     let mut met = 0;
-    for place in 0..before.len() {
+    for place in 0..before.catalogue.len() {
         let now = put_next(alloc, before, place, after, met, out)?;
         met = now;
     }
     Ok(met)
 }
 
-// The same for the data set at this place, where so many are met.
+// The same for the data set at this place, if it is one of them, where so many are met.
 #[tactic(auto, using(crate::proofs::Walking::met_again, crate::proofs::Walking::gone_before, crate::proofs::Walking::gone_last))]
 fn put_next(
     alloc: Global,
-    before: &Catalogue,
+    before: Part<'_>,
     place: usize,
     after: &Catalogue,
     met: usize,
     out: &mut Vec<Vec<u8>>,
 ) -> Result<usize, AllocError>
-    requires { place < length before.now }
-    ensures { IfOk result (λ now. texts_in out.old.items ++ said_texts (changes_between (drop place before.now) (drop met after.now))
-        ≡ texts_in out.new.items ++ said_texts (changes_between (drop (place + 1) before.now) (drop now after.now))) }
+    ensures { IfOk result (λ now. texts_in out.old.items
+        ++ said_texts (changes_between (those_of before.entry.which.now (drop place before.entry.catalogue.now)) (drop met after.now))
+        ≡ texts_in out.new.items
+        ++ said_texts (changes_between (those_of before.entry.which.now (drop (place + 1) before.entry.catalogue.now)) (drop now after.now))) }
 {
     let _count = after.len();
     let Some((old, was)) = before.at(place) else {

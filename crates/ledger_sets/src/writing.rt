@@ -3,8 +3,10 @@ ghost use Rattle.std.specs.Prelude.{◌≡◌, ◌++◌, ◌∷◌, [], IfOk, On
 ghost use Rattle.ledger_text.specs.Text.{commit_text};
 ghost use Rattle.ledger_text.specs.Records.{Audit, Tables};
 ghost use Rattle.ledger_sets.specs.Changes.{whole, said_text, change_text, changes_between, run_changes, tables_changes};
+ghost use Rattle.ledger_sets.specs.Parts.{those_of};
 ghost use Rattle.ledger_sets.specs.Writing.{texts_in};
 
+use crate::part::{Part, Which};
 use crate::sets::{put_changes, put_whole};
 use ledger_text::{Record, commit_text, record_text};
 use mon_catalogue::{Catalogue, DataSet};
@@ -16,6 +18,7 @@ use std::alloc::{AllocError, Global};
 /// # Errors
 ///
 /// Where a growth was refused.
+#[tactic(auto, using(crate::proofs::Copying::all_of))]
 pub fn sets_change(
     alloc: Global,
     before: &Catalogue,
@@ -23,12 +26,17 @@ pub fn sets_change(
 ) -> Result<Vec<u8>, AllocError>
     ensures { IfOk result (λ text. text.items ≡ change_text (changes_between before.now after.now)) }
 {
+    let whole = Part {
+        catalogue: before,
+        which: &Which::All,
+    };
     let mut texts = Vec::new(alloc);
-    put_changes(alloc, before, after, &mut texts)?;
+    put_changes(alloc, whole, after, &mut texts)?;
     text_of_all(alloc, &texts)
 }
 
-/// What a text changed that ran: behind it so many jobs ran so far; its audit has these lines; and one catalogue became another.
+/// What a text changed that ran: behind it so many jobs ran so far; its audit has these lines; and these data sets became those of a
+/// catalogue.
 ///
 /// # Errors
 ///
@@ -37,10 +45,11 @@ pub fn run_change(
     alloc: Global,
     jobs: u64,
     audit: &[u8],
-    before: &Catalogue,
+    before: Part<'_>,
     after: &Catalogue,
 ) -> Result<Vec<u8>, AllocError>
-    ensures { IfOk result (λ text. text.items ≡ change_text (run_changes jobs audit.now before.now after.now)) }
+    ensures { IfOk result (λ text. text.items
+        ≡ change_text (run_changes jobs audit.now (those_of before.entry.which.now before.entry.catalogue.now) after.now)) }
 {
     let mut texts = Vec::new(alloc);
     put_audit(alloc, jobs, audit, &mut texts)?;

@@ -26,14 +26,14 @@ of_command (ShowAcl by name) = refl
 of_command (Listing by name) = refl
 of_command (Catalog by) = refl
 
-made_in : (k : ℕ) (asked : List Asked) → makes (events_of k asked) ≡ count_by creates asked
+pub made_in : (k : ℕ) (asked : List Asked) → makes (events_of k asked) ≡ count_by creates asked
 made_in k [] = refl
 made_in k (Commands command ∷ asked) = ap₂ (λ (a b : ℕ). a + b) (of_command command) (made_in k asked) ∙ sym (sum_by-cons one_made (Commands command) asked)
 made_in k (Enters job ∷ asked) = ap (λ (n : ℕ). 0 + n) (made_in (suc k) asked) ∙ sym (sum_by-cons one_made (Enters job) asked)
 made_in k (Gives turn ∷ asked) = ap (λ (n : ℕ). 0 + n) (made_in k asked) ∙ sym (sum_by-cons one_made (Gives turn) asked)
 made_in k (Drains ∷ asked) = ap (λ (n : ℕ). 0 + n) (made_in k asked) ∙ sym (sum_by-cons one_made Drains asked)
 
-fenced : (asked : List Asked) → count_by creates (asked ++ Drains ∷ []) ≡ count_by creates asked
+pub fenced : (asked : List Asked) → count_by creates (asked ++ Drains ∷ []) ≡ count_by creates asked
 fenced asked =
     let both = sum_by-append one_made asked (Drains ∷ []) in
     let none : count_by creates (Drains ∷ []) ≡ 0 = sum_by-cons one_made Drains [] in

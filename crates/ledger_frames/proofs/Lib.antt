@@ -1,0 +1,4 @@
+pub mod Within
+pub mod Between
+pub mod Enough
+pub mod Needed
