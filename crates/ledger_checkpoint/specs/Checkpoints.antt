@@ -1,6 +1,6 @@
 -- A CHECKPOINT (own): a site's state behind so many commits, as two texts. The one has a piece for each data set, the change that puts it
 -- whole, one behind the other; the other, the index, says which data sets there are, and of each where its piece stands.
-use Rattle.std.specs.Prelude.{◌≡◌, ℕ, ◌+◌, List, [], ◌∷◌, length}
+use Rattle.std.specs.Prelude.{ℕ, ◌+◌, List, [], ◌∷◌, length}
 use Rattle.std.specs.List.{flat_map}
 use Rattle.acl_text.specs.Printing.{short_form}
 use Rattle.mon_catalogue.specs.declared.data_set.DataSet.{DataSet}
@@ -10,7 +10,7 @@ use Rattle.ledger_text.specs.Digests.{digest_of}
 use Rattle.ledger_text.specs.Text.{commit_text}
 use Rattle.ledger_text.specs.Records.{Said, Audit, Tables}
 use Rattle.ledger_index.specs.declared.index.Span.{Span}
-use Rattle.ledger_index.specs.Index.{Entry, Head, Index, index_text}
+use Rattle.ledger_index.specs.Index.{Entry, Head, Index}
 use Rattle.ledger_sets.specs.Changes.{whole, change_text}
 use Rattle.ledger_sets.specs.Applying.{Site}
 
@@ -52,12 +52,6 @@ head_for count last course site = record { count = count; last = last; jobs = si
 
 abbrev pub index_for : ℕ → List ℕ → List ℕ → Site → Index
 index_for count last course site = record { head = head_for count last course site; entries = entries_from 0 site.sets }
-
--- ---- THE TWO TEXTS
-
-pub record IsCheckpoint (index pieces : List ℕ) (count : ℕ) (last course : List ℕ) (site : Site) : Type 0 where
-  pub index_is : index ≡ index_text (index_for count last course site)
-  pub pieces_are : pieces ≡ pieces_text site.sets
 
 -- ---- what an index says besides the data sets, as a change
 

@@ -5,10 +5,12 @@
 pub mod applying;
 pub mod laws;
 pub mod picking;
+pub mod pieces;
 pub mod source;
 pub mod writing;
 
 pub use applying::{take_rest, take_sets};
 pub use picking::pick_entries;
+pub use pieces::{MemoryPieces, NotPut, Pieces};
 pub use source::{MemorySource, Source};
-pub use writing::{Behind, Checkpoint, write_checkpoint};
+pub use writing::{Behind, write_checkpoint};

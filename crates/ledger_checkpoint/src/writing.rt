@@ -1,17 +1,18 @@
-//! A checkpoint is written: its index, and its pieces.
-ghost use Rattle.std.specs.Prelude.{◌≡◌, ◌<◌, ◌+◌, ◌++◌, ◌∷◌, [], length, drop, IfOk, OnOk};
+//! A checkpoint is written: its pieces, and its index.
+ghost use Rattle.std.specs.Prelude.{◌≡◌, ◌<◌, ◌+◌, ◌++◌, ◌∷◌, [], length, map, drop, IfOk, OnOk};
 ghost use Rattle.ledger_text.specs.Text.{commit_text};
-ghost use Rattle.ledger_index.specs.Index.{entry_text};
+ghost use Rattle.ledger_index.specs.Index.{entry_text, index_text};
 ghost use Rattle.ledger_sets.specs.Seeing.{site_of};
-ghost use Rattle.ledger_checkpoint.specs.Checkpoints.{piece_of, entry_at, entries_from, pieces_text, IsCheckpoint};
+ghost use Rattle.ledger_checkpoint.specs.Checkpoints.{piece_of, entry_at, entries_from, index_for};
 ghost use Rattle.ledger_checkpoint.specs.Writing.{texts_in, entry_texts};
 
+use crate::pieces::{NotPut, Pieces};
 use acl_text::put_short;
 use ledger_index::{Entry, Head, Span, entry_text, index_text};
 use ledger_sets::{State, Tables, whole_change};
 use ledger_text::{commit_text, digest};
 use mon_catalogue::{Catalogue, DataSet};
-use mon_text::Name;
+use mon_text::{Name, Stop};
 use std::alloc::{AllocError, Global};
 
 /// Where a checkpoint stands, and what else it has to say.
@@ -25,30 +26,31 @@ pub struct Behind<'a> {
     pub course: &'a [u8],
 }
 
-/// A checkpoint as two texts.
+// What is written of a checkpoint.
 #[derive(Drop)]
-pub struct Checkpoint {
-    /// Its index.
-    pub index: Vec<u8>,
-    /// The pieces of all data sets, one behind the other.
-    pub pieces: Vec<u8>,
+struct Written {
+    // What its index says of each data set whose piece is put.
+    entries: Vec<Vec<u8>>,
+    // So many bytes these pieces have.
+    size: u64,
 }
 
-/// The checkpoint of a state behind so many commits.
+/// The checkpoint of a state behind so many commits: its pieces are put, and its index is the result.
 ///
 /// # Errors
 ///
-/// Where a growth was refused.
-pub fn write_checkpoint(
+/// Where a growth was refused, or a piece can't be put.
+pub fn write_checkpoint<P: Pieces>(
     alloc: Global,
     behind: Behind<'_>,
     state: &State,
-) -> Result<Checkpoint, AllocError>
-    ensures { IfOk result (λ made. IsCheckpoint made.index.items made.pieces.items behind.entry.count behind.entry.last.now behind.entry.course.now
-        (site_of state.now)) }
+    pieces: &mut P,
+) -> Result<Vec<u8>, Stop<NotPut>>
+    ensures index { IfOk result (λ index. index.items
+        ≡ index_text (index_for behind.entry.count behind.entry.last.now behind.entry.course.now (site_of state.now))) }
+    ensures pieces { OnOk result (P.taken pieces.new ≡ P.taken pieces.old ++ map piece_of (site_of state.now).sets) }
 {
-    let mut pieces = Vec::new(alloc);
-    let entries = put_sets(alloc, &state.catalogue, &mut pieces)?;
+    let entries = put_sets(alloc, &state.catalogue, pieces)?;
     let tables = tables_text(alloc, &state.tables)?;
     let head = Head {
         count: behind.count,
@@ -57,8 +59,7 @@ pub fn write_checkpoint(
         course: behind.course,
         tables: tables.as_slice(),
     };
-    let index = index_text(alloc, head, &entries)?;
-    Ok(Checkpoint { index, pieces })
+    Ok(index_text(alloc, head, &entries)?)
 }
 
 fn tables_text(alloc: Global, tables: &Tables) -> Result<Vec<u8>, AllocError>
@@ -77,37 +78,39 @@ fn tables_text(alloc: Global, tables: &Tables) -> Result<Vec<u8>, AllocError>
 
 // Puts the pieces of all data sets; what the index says of each.
 #[tactic(auto, using(crate::proofs::Standing::no_pieces, crate::proofs::Standing::no_entries))]
-fn put_sets(
+fn put_sets<P: Pieces>(
     alloc: Global,
     sets: &Catalogue,
-    pieces: &mut Vec<u8>,
-) -> Result<Vec<Vec<u8>>, AllocError>
-    requires { pieces.old.items ≡ [] }
+    pieces: &mut P,
+) -> Result<Vec<Vec<u8>>, Stop<NotPut>>
     ensures entries { IfOk result (λ entries. texts_in entries.items ≡ entry_texts (entries_from 0 sets.now)) }
-    ensures pieces { OnOk result (pieces.new.items ≡ pieces_text sets.now) }
+    ensures pieces { OnOk result (P.taken pieces.new ≡ P.taken pieces.old ++ map piece_of sets.now) }
 {
-    let mut entries = Vec::new(alloc);
+    let mut written = Written {
+        entries: Vec::new(alloc),
+        size: 0,
+    };
     for place in 0..sets.len() {
-        put_at(alloc, sets, place, pieces, &mut entries)?;
+        put_at(alloc, sets, place, pieces, &mut written)?;
     }
-    Ok(entries)
+    Ok(written.entries)
 }
 
-fn put_at(
+fn put_at<P: Pieces>(
     alloc: Global,
     sets: &Catalogue,
     place: usize,
-    pieces: &mut Vec<u8>,
-    entries: &mut Vec<Vec<u8>>,
-) -> Result<(), AllocError>
+    pieces: &mut P,
+    written: &mut Written,
+) -> Result<(), Stop<NotPut>>
     requires { place < length sets.now }
-    ensures entries { OnOk result (texts_in entries.new.items ++ entry_texts (entries_from (length pieces.new.items) (drop (place + 1) sets.now))
-        ≡ texts_in entries.old.items ++ entry_texts (entries_from (length pieces.old.items) (drop place sets.now))) }
-    ensures pieces { OnOk result (pieces.new.items ++ pieces_text (drop (place + 1) sets.now) ≡ pieces.old.items ++ pieces_text (drop place sets.now)) }
+    ensures entries { OnOk result (texts_in written.new.entries.items ++ entry_texts (entries_from written.new.size (drop (place + 1) sets.now))
+        ≡ texts_in written.old.entries.items ++ entry_texts (entries_from written.old.size (drop place sets.now))) }
+    ensures pieces { OnOk result (P.taken pieces.new ++ map piece_of (drop (place + 1) sets.now) ≡ P.taken pieces.old ++ map piece_of (drop place sets.now)) }
 {
     match sets.at(place) {
         Some((name, set)) => {
-            put_set(alloc, name, set, pieces, entries)?;
+            put_set(alloc, name, set, pieces, written)?;
             Ok(())
         }
         None => Ok(()),
@@ -115,22 +118,31 @@ fn put_at(
 }
 
 // Puts the piece of a data set, and what the index says of it.
-fn put_set(
+fn put_set<P: Pieces>(
     alloc: Global,
     name: &Name,
     set: &DataSet,
-    pieces: &mut Vec<u8>,
-    entries: &mut Vec<Vec<u8>>,
-) -> Result<(), AllocError>
-    ensures entries { OnOk result (texts_in entries.new.items
-        ≡ texts_in entries.old.items ++ entry_text (entry_at (length pieces.old.items) (name.now, set.now)) ∷ []) }
-    ensures pieces { OnOk result (pieces.new.items ≡ pieces.old.items ++ piece_of (name.now, set.now)) }
+    pieces: &mut P,
+    written: &mut Written,
+) -> Result<(), Stop<NotPut>>
+    ensures entries { OnOk result (texts_in written.new.entries.items
+        ≡ texts_in written.old.entries.items ++ entry_text (entry_at written.old.size (name.now, set.now)) ∷ []) }
+    ensures size { OnOk result (written.new.size ≡ written.old.size + length (piece_of (name.now, set.now))) }
+    ensures pieces { OnOk result (P.taken pieces.new ≡ P.taken pieces.old ++ piece_of (name.now, set.now) ∷ []) }
 {
     let piece = whole_change(alloc, name, set)?;
-    let entry = set_entry(alloc, name, set, pieces.len() as u64, &piece)?;
-    pieces.extend_from_slice(&piece)?;
-    entries.push(entry)?;
-    Ok(())
+    let entry = set_entry(alloc, name, set, written.size, &piece)?;
+    let Some(size) = written.size.checked_add(piece.len() as u64) else {
+        return Err(Stop::Refused(NotPut));
+    };
+    pieces.put(&piece)?;
+    match written.entries.push(entry) {
+        Ok(()) => {
+            written.size = size;
+            Ok(())
+        }
+        Err(_) => Err(Stop::Memory),
+    }
 }
 
 fn set_entry(

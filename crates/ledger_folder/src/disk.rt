@@ -41,6 +41,8 @@ pub struct SiteDisk<R: Host> {
     readers: Vec<Reader>,
     // The numbers under which a file was to be claimed.
     named: Vec<u64>,
+    // So many bytes of commits were read and written.
+    weight: u64,
 }
 
 impl<R: Host> SiteDisk<R> {
@@ -64,7 +66,25 @@ impl<R: Host> SiteDisk<R> {
             dropped: Vec::new(alloc),
             readers: Vec::new(alloc),
             named: Vec::new(alloc),
+            weight: 0,
         })
+    }
+
+    /// So many bytes of commits were read and written.
+    pub fn weight(&self) -> u64 {
+        self.weight
+    }
+
+    // So many bytes were read or written under this name.
+    fn weigh(&mut self, name: Name, size: usize)
+        ensures { self.new.files.made.calls ≡ self.old.files.made.calls }
+    {
+        match name {
+            Name::Commit(_) | Name::Draft => {
+                self.weight = self.weight.saturating_add(size as u64);
+            }
+            Name::Dropped(_) | Name::Claimed(_) | Name::Answer(_) | Name::Unfinished => {}
+        }
     }
 
     /// A file in the box at this path is called by its place from here on.
@@ -231,7 +251,11 @@ impl<R: Host> Disk for SiteDisk<R> {
     ghost tells = { ⊥ };
 
     fn read(&mut self, name: Name) -> Result<Option<Vec<u8>>, DiskError> {
-        self.files.read(name)
+        let found = self.files.read(name)?;
+        if let Some(bytes) = &found {
+            self.weigh(name, bytes.len());
+        }
+        Ok(found)
     }
 
     fn look(&mut self, name: Name) -> Result<Option<Identity>, DiskError> {
@@ -247,6 +271,7 @@ impl<R: Host> Disk for SiteDisk<R> {
     }
 
     fn write(&mut self, name: Name, bytes: &[u8]) -> Result<(), DiskError> {
+        self.weigh(name, bytes.len());
         self.files.write(name, bytes)
     }
 

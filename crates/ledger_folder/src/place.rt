@@ -85,6 +85,11 @@ impl<R: Host> Place<R> {
         self.given(path, write_new(&self.rt, path, bytes))
     }
 
+    /// A new file that its owner may write and its group read, open for writing.
+    pub fn create_new(&self, path: &str) -> Result<R::File, Fault> {
+        self.given(path, create_new(&self.rt, path))
+    }
+
     /// Gives a file another name.
     pub fn rename(&self, from: &str, to: &str) -> Result<(), Fault> {
         self.given(to, fs::rename(&self.rt, from, to))
@@ -171,14 +176,19 @@ pub(crate) fn remove_if_there<R: Host>(rt: &R, path: &str) -> io::Result<()> {
 
 /// A new file that its owner may write and its group read, on the disk.
 pub(crate) fn write_new<R: Host>(rt: &R, path: &str, bytes: &[u8]) -> io::Result<()> {
-    let mut file = OpenOptions::new()
+    let mut file = create_new(rt, path)?;
+    file.write_all(bytes)?;
+    file.sync_all()
+}
+
+fn create_new<R: Host>(rt: &R, path: &str) -> io::Result<R::File> {
+    let file = OpenOptions::new()
         .write(true)
         .create_new(true)
         .mode(0o640)
         .open(rt, path)?;
     file.set_permissions(Permissions::from_mode(0o640))?;
-    file.write_all(bytes)?;
-    file.sync_all()
+    Ok(file)
 }
 
 fn make_with_mode<R: Host>(rt: &R, path: &str, mode: u32) -> io::Result<()> {

@@ -6,12 +6,12 @@ mod telling;
 
 use clap::Error;
 use ledger_acts::{
-    accounts_of, add_user, catalogue_of, deck_of, del_user, limits_of, make_site, put_file,
-    restore_set, set_groups, set_limits,
+    Init, Put, accounts_of, add_user, catalogue_of, deck_of, del_user, limits_of, make_site,
+    put_file, restore_set, set_groups, set_limits,
 };
 use ledger_folder::{Fault, Place};
 use ledger_opening::{Site, open_site, progress_there, runner_of};
-use ledger_service::{Report, refuse_full, run_site, standing_of, verify};
+use ledger_service::{Report, check, refuse_full, run_site, standing_of, verify};
 use ledger_users::{check_file, queue_of, submit_file};
 use mon_text::Name;
 use options::{Act, Asked, no_text, read_asked};
@@ -62,7 +62,7 @@ fn words<R: Env + AllocGlobal>(rt: &R) -> io::Result<Vec<String>> {
 // Does what is asked, and gives the exit status.
 fn serve(rt: &HostRuntime, asked: Asked) -> u8 {
     match asked {
-        Asked::Init(init) => tell_text(rt, make_site(*rt, &init)),
+        Asked::Init(init) => tell_text(rt, init_site(rt, &init)),
         Asked::Verify(top) => tell_verified(rt, verify(*rt, top)),
         Asked::Check(own) => tell_checked(rt, check_file(*rt, &own)),
         Asked::Submit(own) => tell_checked(rt, submit_file(*rt, &own)),
@@ -70,6 +70,19 @@ fn serve(rt: &HostRuntime, asked: Asked) -> u8 {
         Asked::Run(top) => run(rt, &top),
         Asked::OfSite(top, act) => serve_locked(rt, top, act),
     }
+}
+
+// Makes a site. Behind a large catalogue stands a checkpoint: where that can't be written, the site is made all the same.
+fn init_site(rt: &HostRuntime, init: &Init) -> Result<Vec<u8>, Fault> {
+    let told = make_site(*rt, init)?;
+    let _checked = check_new(rt, &init.top);
+    Ok(told)
+}
+
+fn check_new(rt: &HostRuntime, top: &str) -> Result<(), Fault> {
+    let _held = lock(rt, top, LOCK_ATTEMPTS)?;
+    let mut site = opened(rt, top)?;
+    check(&mut site)
 }
 
 // What is done with a site open, with its lock held: whoever opens a ledger brings it to the disk.
@@ -104,7 +117,7 @@ fn serve_open(rt: &HostRuntime, site: &mut Site<HostRuntime>, act: Act) -> u8 {
     match act {
         Act::Status => tell_standing(rt, standing_of(site)),
         Act::Catalogue(at) => tell_text(rt, catalogue_of(site, at)),
-        Act::Put(put) => tell_done(rt, put_file(site, &put)),
+        Act::Put(put) => tell_done(rt, put_sets(site, &put)),
         Act::Restore(restore) => tell_done(rt, restore_set(site, &restore)),
         Act::AddUser(user) => tell_text(rt, add_user(site, &user)),
         Act::DelUser(account) => tell_done(rt, end_user(site, &account)),
@@ -114,6 +127,13 @@ fn serve_open(rt: &HostRuntime, site: &mut Site<HostRuntime>, act: Act) -> u8 {
         Act::Limits(None) => tell_text(rt, limits_of(site)),
         Act::Deck(number) => tell_text(rt, deck_of(site, number)),
     }
+}
+
+// Puts data sets. Behind large ones stands a checkpoint: where that can't be written, they are put all the same.
+fn put_sets(site: &mut Site<HostRuntime>, put: &Put) -> Result<(), Fault> {
+    put_file(site, put)?;
+    let _checked = check(site);
+    Ok(())
 }
 
 // Behind a run that ends all that waits: so no submission and no answer of the account is left.

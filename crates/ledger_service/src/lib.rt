@@ -7,6 +7,7 @@ pub mod running;
 pub mod serving;
 pub mod status;
 
+pub use checkpoints::check;
 pub use running::{Report, run_site};
 pub use serving::refuse_full;
 pub use status::{Standing, Verified, Waiting, standing_of, verify};

@@ -1,6 +1,6 @@
 //! A state of three data sets: its checkpoint is read whole and in parts, and refused where it was changed; a data set is brought back.
 use ledger_checkpoint::{
-    Behind, Checkpoint, MemorySource, pick_entries, take_rest, take_sets, write_checkpoint,
+    Behind, MemoryPieces, MemorySource, pick_entries, take_rest, take_sets, write_checkpoint,
 };
 use ledger_index::{CheckpointFault, Course, Kept, Sealed, course_text, read_course, read_index};
 use ledger_machine::SiteMachine;
@@ -12,6 +12,13 @@ use mon_catalogue::Catalogue;
 use mon_text::{Stop, read_name};
 use sno_text::Seed;
 use std::alloc::Global;
+
+// A checkpoint as two texts.
+#[derive(Drop)]
+struct Checkpoint {
+    index: Vec<u8>,
+    pieces: Vec<u8>,
+}
 
 // A data set by its name, the head of its text, and its records.
 type Spelled<'a> = (&'a [u8], &'a [u8], &'a [u8]);
@@ -51,7 +58,10 @@ fn checkpoint_of(alloc: Global, state: &State) -> Option<Checkpoint> {
         last: b"0123",
         course: b"",
     };
-    write_checkpoint(alloc, behind, state).ok()
+    let mut pieces = MemoryPieces::new(alloc);
+    let index = write_checkpoint(alloc, behind, state, &mut pieces).ok()?;
+    let pieces = pieces.text().ok()?;
+    Some(Checkpoint { index, pieces })
 }
 
 // Whether nothing leads from the one to the other.
