@@ -2,12 +2,17 @@
 from __future__ import annotations
 
 import os
+import subprocess
+import sys
 import unittest
 from typing import Callable, Dict, List
 from test_ledger_program import ACCOUNTS, CATALOGUE, LIMITS, LedgerTrying
 from trying import SITE, Trying
 
 MANY = 500  # submissions, of which each is a commit when it is claimed and one when it ran
+BEGINS = """import resource, subprocess, sys
+subprocess.run(sys.argv[1:], stdout=subprocess.DEVNULL, check=True)
+print(resource.getrusage(resource.RUSAGE_CHILDREN).ru_maxrss)"""
 APPENDS = b"$JOB anna ST=100 MATCH=1000\n$UNIT 1 LOG\n OUTPUT(.X,1,'(80A1)')\n X = '%d'\nEND\n$EOJ\n"
 
 
@@ -88,6 +93,50 @@ class LedgerCheckpoints(LedgerTrying):
         self.assertEqual(self.numbers(), [self.commits() - 1])
         self.assertRegex(self.done('verify', self.folder), rb'whole')
         self.assertEqual(self.done('catalogue', self.folder), self.done('catalogue', self.folder, '--at', '%d' % (3 * MANY)))
+
+
+@unittest.skipUnless(os.path.exists(SITE), 'there is no site')
+class LargeDataSets(LedgerTrying):
+    """Where a commit has many bytes, a checkpoint stands behind it at once; and a run takes little more memory than the data sets."""
+    SETS, RECORDS = 8, 20_000
+    LINE = b'x' * 79 + b'\n'
+
+    def setUp(self) -> None:
+        Trying.setUp(self)
+        self.folder = self.path('site')
+        self.check = self.folder + '/keep/check'
+
+    def catalogue(self, line: bytes) -> bytes:
+        return CATALOGUE + b''.join(b'$SET BULK%d anna staff APPEND %d\nuser::rw-,group::---,other::---\n' % (number, self.RECORDS)
+                                    + line * self.RECORDS for number in range(self.SETS))
+
+    def makes(self) -> None:
+        limits = LIMITS.replace(b'records 10000\n', b'records 100000000\n') + b'seconds 60\noutput 100000\n'
+        for name, text in (('accounts', ACCOUNTS), ('limits', limits), ('catalogue', self.catalogue(self.LINE))):
+            self.write(name, text)
+        self.done('init', self.folder, '--accounts', self.path('accounts'), '--limits', self.path('limits'), '--catalogue', self.path('catalogue'),
+                  '--demonstration')
+
+    def test_a_checkpoint_stands_right_behind_them(self) -> None:
+        self.makes()
+        self.assertEqual(sorted(os.listdir(self.check)), ['2', '2.pieces'])
+        self.write('other', self.catalogue(b'y' * 79 + b'\n'))
+        self.done('put', self.folder, self.path('other'))
+        self.assertEqual(sorted(os.listdir(self.check)), ['2', '2.pieces', '4', '4.pieces'])
+        self.assertEqual(self.done('catalogue', self.folder).count(b'y' * 79), self.SETS * self.RECORDS)
+        self.assertRegex(self.done('verify', self.folder), rb'whole')
+
+    def test_a_run_takes_little_more_memory_than_the_data_sets(self) -> None:
+        self.makes()
+        self.drop([('anna', 'one.job', APPENDS % 1)])
+        held = self.peak('run', self.folder)
+        data = len(self.catalogue(self.LINE))
+        self.assertLess(held, 1.4 * data + 8e6)
+
+    def peak(self, *words: str) -> int:
+        """So many bytes a run of the program has held in memory at most. It is begun by a small one, since it counts what its parent held."""
+        run = subprocess.run([sys.executable, '-c', BEGINS, SITE, *words], stdout=subprocess.PIPE, check=True)
+        return int(run.stdout) * 1024
 
 
 if __name__ == '__main__':
