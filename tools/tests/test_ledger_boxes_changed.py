@@ -82,14 +82,17 @@ class LedgerBoxesChanged(Attacking):
 
     def test_a_box_that_is_not_as_it_must_be_costs_its_user_alone(self) -> None:
         box, away = self.folder + '/in/anna', self.path('away')
+
+        def moved(then: Callable[[], object]) -> None:
+            os.rename(box, away)
+            then()
+
         acts: List[Tuple[str, Callable[[], object]]] = [
             ('others may write', lambda: os.chmod(box, 0o2777)), ('others may write', lambda: os.chmod(box, 0o2772)),
             ('sticky', lambda: os.chmod(box, 0o3770)), ('of lisa', lambda: os.chown(box, OTHER, -1)),
             ('missing', lambda: os.rename(box, away)),
-            ('a link', lambda: (os.rename(box, away), os.symlink('lisa', box))),
-            ('a link to itself', lambda: (os.rename(box, away), os.symlink('anna', box))),
-            ('a file', lambda: (os.rename(box, away), shutil.copy('/etc/hostname', box))),
-            ('a fifo', lambda: (os.rename(box, away), os.mkfifo(box)))]
+            ('a link', lambda: moved(lambda: os.symlink('lisa', box))), ('a link to itself', lambda: moved(lambda: os.symlink('anna', box))),
+            ('a file', lambda: moved(lambda: shutil.copy('/etc/hostname', box))), ('a fifo', lambda: moved(lambda: os.mkfifo(box)))]
         for what, act in acts:
             with self.subTest(what):
                 self.drop('anna', 'it', LIST % b'anna')

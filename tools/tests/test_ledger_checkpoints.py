@@ -64,7 +64,7 @@ class LedgerCheckpoints(LedgerTrying):
         index, pieces = '%s/%d' % (self.check, number), '%s/%d.pieces' % (self.check, number)
         kept: Dict[str, bytes] = {path: self.read(path) for path in (index, pieces)}
         before = self.done('catalogue', self.folder)
-        cuts: List[Callable[[], None]] = [
+        cuts: List[Callable[[], object]] = [
             lambda: os.remove(index), lambda: os.remove(pieces), lambda: self.write(index, b''), lambda: self.write(pieces, b''),
             lambda: self.write(index, kept[pieces]), lambda: self.write(pieces, kept[index]), lambda: self.write(index, kept[index] + b'\n'),
             lambda: os.rename(index, '%s/%d' % (self.check, number - 1)), lambda: os.rename(index, '%s/%d' % (self.check, number + 1)),

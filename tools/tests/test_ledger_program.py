@@ -150,8 +150,8 @@ class LedgerProgram(LedgerTrying):
             self.done('run', self.folder)
             shown.append(self.done('catalogue', self.folder))
         self.assertEqual([shown[0] == shown[1], shown[1] == shown[2], shown[2] == shown[3]], [True, False, True])
-        for number, text in enumerate(shown):
-            self.assertEqual(self.done('catalogue', self.folder, '--at', str(number)), text)
+        for number, before in enumerate(shown):
+            self.assertEqual(self.done('catalogue', self.folder, '--at', str(number)), before)
 
     def test_an_account_gets_other_groups(self) -> None:
         self.assertEqual(self.done('accounts', self.folder), ACCOUNTS)

@@ -56,6 +56,10 @@ class LedgersEdited(Attacking):
     def put(self, number: int, content: bytes) -> None:
         self.write('%s%08d' % (self.ledgers, number), content)
 
+    def put_each(self, contents: Dict[int, bytes]) -> None:
+        for number, content in contents.items():
+            self.put(number, content)
+
     def commit(self, number: int) -> bytes:
         return self.read('%s%08d' % (self.ledgers, number))
 
@@ -79,7 +83,7 @@ class LedgersEdited(Attacking):
         count = len(self.commits())
         for one, other in [(0, 1), (1, 2), (count - 2, count - 1), (3, 7)]:
             first, second = self.commit(one), self.commit(other)
-            self.mended(lambda: (self.put(one, second), self.put(other, first), None)[-1], '%d and %d changed places' % (one, other))
+            self.mended(lambda: self.put_each({one: second, other: first}), '%d and %d changed places' % (one, other))
             self.mended(lambda: self.put(other, first), '%d stands in the place of %d' % (one, other))
         for number in (0, 5, count - 1):
             text = self.commit(number)

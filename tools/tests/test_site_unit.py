@@ -84,7 +84,8 @@ class Run(OfAnOperator):
 
     def ran(self, words: Iterable[str] = (), **more: Any) -> None:
         """Both users read what they got, and nobody else does."""
-        done = run([*words, self.program, 'run', self.folder], cwd='/', **{**self.as_operator(), 'umask': 0o077}, **more)
+        given: Dict[str, Any] = {**self.as_operator(), 'umask': 0o077, **more}
+        done = run([*words, self.program, 'run', self.folder], cwd='/', **given)
         self.assertEqual((done.status, done.out), (1, b'1 run, 1 refused\n'), done.err)
         for account in self.users:
             name, = os.listdir(f'{self.folder}/out/{account}')
