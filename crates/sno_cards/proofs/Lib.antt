@@ -8,3 +8,4 @@ pub mod Programs
 pub mod Cuts
 mod Examples
 pub mod TruePlaces
+pub mod Marks

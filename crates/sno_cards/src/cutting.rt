@@ -7,6 +7,7 @@ ghost use Rattle.std.specs.List.{list_any};
 ghost use Rattle.mon_text.specs.Characters.{is_quote};
 
 use crate::text::StatementText;
+use memchr::memchr3;
 use std::alloc::{AllocError, Global};
 use std::mem;
 
@@ -40,22 +41,11 @@ fn is_blank_line(text: &[u8]) -> bool
     text.iter().all(|code| *code == b' ')
 }
 
-// Whether a character may begin a literal or end a statement.
-fn is_mark(code: u8) -> bool
-    ensures { result ≡ (is_quote code || code == 59) }
-{
-    is_quote(code) || code == b';'
-}
-
-// Whether any character of a text may. All are looked at, since that goes by many at once.
+// Whether a text has a character that may begin a literal or end a statement.
 fn has_marks(text: &[u8]) -> bool
     ensures { result ≡ list_any (λ c. is_quote c || c == 59) text.now }
 {
-    let mut found = false;
-    for code in text {
-        found |= is_mark(*code);
-    }
-    found
+    memchr3(b'\'', b'"', b';', text).is_some()
 }
 
 // Appends a piece of a line, unless it has nothing but blanks.

@@ -4,6 +4,7 @@ mod Places
 mod Contexts
 mod Words
 mod Clean
+mod Plain
 mod Faults
 mod Reading
 pub mod Telling

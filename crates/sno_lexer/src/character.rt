@@ -51,12 +51,12 @@ pub(crate) fn is_line(text: &[u8]) -> bool
     text.iter().all(|code| is_printable(*code))
 }
 
-// Whether a character goes on with an identifier after its first letter.
+// Whether a character goes on with an identifier after its first letter. None before `.` does, so a blank is told at once.
 #[inline(always)]
 fn is_identifier_character(code: u8) -> bool
     ensures { result ≡ is_identifier_character code }
 {
-    is_letter(code) || is_digit(code) || code == b'.' || code == b'_'
+    code >= b'.' && (is_digit(code) || is_letter(code) || code == b'_' || code == b'.')
 }
 
 #[inline(always)]

@@ -1,5 +1,5 @@
 //! The characters of a name or of a literal, as a tree has them.
-ghost use Rattle.std.specs.Prelude.{◌≡◌, ◌≤◌, length, IfOk};
+ghost use Rattle.std.specs.Prelude.{◌≡◌, ◌≤◌, length, take, IfOk};
 ghost use Rattle.mon_text.specs.Lines.{IsLine};
 
 use mon_text::Line;
@@ -38,6 +38,25 @@ impl Model for Characters {
     ghost invariant = { λ c. IsLine (option_map_or (λ few. take few.count few.room) (result_ok c.place) (option_map_or (λ line. line.value) (result_err c.place) [])) × IfOk c.place (λ few. few.count ≤ 14) };
 }
 
+// Few characters, and zeros behind them. One to four are not copied, since what was just copied is slow to read.
+#[inline(always)]
+fn room_of(text: &[u8]) -> [u8; MOST_SHORT]
+    requires { length text.now ≤ 14 }
+    ensures { take (length text.now) result ≡ text.now }
+{
+    match text {
+        [a] => [*a, 0, 0, 0, 0, 0, 0, 0, 0, 0, 0, 0, 0, 0],
+        [a, b] => [*a, *b, 0, 0, 0, 0, 0, 0, 0, 0, 0, 0, 0, 0],
+        [a, b, c] => [*a, *b, *c, 0, 0, 0, 0, 0, 0, 0, 0, 0, 0, 0],
+        [a, b, c, d] => [*a, *b, *c, *d, 0, 0, 0, 0, 0, 0, 0, 0, 0, 0],
+        _ => {
+            let mut room = [0; MOST_SHORT];
+            room[..text.len()].copy_from_slice(text);
+            room
+        }
+    }
+}
+
 impl Characters {
     // A few characters.
     #[inline(always)]
@@ -46,12 +65,10 @@ impl Characters {
         requires few { length text.now ≤ 14 }
         ensures { result ≡ text.now }
     {
-        let mut room = [0; MOST_SHORT];
-        room[..text.len()].copy_from_slice(text);
         Characters {
             place: Ok(Few {
                 count: text.len() as u8,
-                room,
+                room: room_of(text),
             }),
         }
     }
