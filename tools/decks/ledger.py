@@ -16,6 +16,7 @@ from .files import blaming, opened
 from .text import Refused, is_count, shown
 
 FOLDER = os.path.join('keep', 'ledger')
+ARCHIVE = os.path.join('keep', 'archive')
 NAME = re.compile(r'[0-9]{8}|[1-9][0-9]{8,18}')
 LENGTH = re.compile(rb'0*([0-9]{0,19})\n')
 # By a record's first field, what the others are called; and those of them that are numbers.
@@ -99,7 +100,7 @@ class Ledger:
     """The ledger of a site, as it stands now: commits that come later are not read."""
 
     def __init__(self, site: str) -> None:
-        self.folder = os.path.join(site, FOLDER)
+        self.folder, self.archive = os.path.join(site, FOLDER), os.path.join(site, ARCHIVE)
         with blaming(self.folder):
             try:
                 self.count = self._count()
@@ -109,7 +110,9 @@ class Ledger:
                 raise Refused(f'{site}: it has no ledger, {FOLDER}; of rounds, snomon-deck audit tells who did what') from None
 
     def path(self, number: int) -> str:
-        return os.path.join(self.folder, f'{number:08}')
+        """Where a commit stands: in the ledger, or among those that were archived."""
+        path, archived = (os.path.join(folder, f'{number:08}') for folder in (self.folder, self.archive))
+        return archived if not os.path.exists(path) and os.path.exists(archived) else path
 
     def commits(self, first: int = 0, before: str = '') -> Iterator[Commit]:
         """Those from this number on; the one before it has this digest. Refused is a file that is no commit, that is missing, or that

@@ -7,7 +7,7 @@ import sys
 import unittest
 from typing import Callable, Dict, List
 from test_ledger_program import ACCOUNTS, CATALOGUE, LIMITS, LedgerTrying
-from trying import SITE, Trying
+from trying import SITE, Trying, deck
 
 MANY = 500  # submissions, of which each is a commit when it is claimed and one when it ran
 BEGINS = """import resource, subprocess, sys
@@ -93,6 +93,50 @@ class LedgerCheckpoints(LedgerTrying):
         self.assertEqual(self.numbers(), [self.commits() - 1])
         self.assertRegex(self.done('verify', self.folder), rb'whole')
         self.assertEqual(self.done('catalogue', self.folder), self.done('catalogue', self.folder, '--at', '%d' % (3 * MANY)))
+
+
+    def archived(self) -> List[str]:
+        return sorted(os.listdir(self.folder + '/keep/archive'))
+
+    def test_what_is_archived_is_read_by_those_alone_who_ask_for_what_was(self) -> None:
+        asked = [('catalogue', self.folder), ('catalogue', self.folder, '--at', '3'), ('deck', self.folder, '7'), ('verify', self.folder)]
+        before = [self.done(*words) for words in asked] + [deck('history', self.folder).out]
+        commits, checked = self.commits(), self.numbers()[-1]
+        self.assertEqual(self.done('archive', self.folder), b'%d commits archived\n' % (commits - 1000))
+        self.assertEqual(self.done('archive', self.folder), b'0 commits archived\n')
+        self.assertEqual((self.archived()[-1], self.commits()), ('%08d' % (commits - 1001), 1000))
+        self.assertEqual(self.done('archive', self.folder, '--keep', '0'), b'%d commits archived\n' % (checked - commits + 1000))
+        self.assertEqual(self.archived(), ['%08d' % number for number in range(checked)])
+        self.assertEqual([self.done(*words) for words in asked] + [deck('history', self.folder).out], before)
+        self.drop([('anna', 'more', APPENDS % 7)])
+        self.assertEqual(self.done('run', self.folder), b'1 run, 0 refused\n')
+        self.assertRegex(self.done('status', self.folder), rb'commits: %d\n' % (commits + 3))
+        os.rename(self.folder + '/keep/archive', self.path('elsewhere'))
+        self.assertEqual(self.done('catalogue', self.folder).count(b'\n'), before[0].count(b'\n') + 1)
+        for words in asked[1:]:
+            done = self.ledger(*words)
+            self.assertEqual((done.status, done.err), (3, 'snomon-site: %s/keep/archive: lacks a commit\n' % self.folder))
+        self.done('run', self.folder)
+
+    def test_archiving_that_is_broken_off_goes_on(self) -> None:
+        before = self.done('verify', self.folder)
+        os.mkdir(self.folder + '/keep/archive', 0o700)
+        for number in (0, 1, 7, 40):
+            os.rename('%s/keep/ledger/%08d' % (self.folder, number), '%s/keep/archive/%08d' % (self.folder, number))
+        self.assertEqual(self.done('verify', self.folder), before)
+        self.done('archive', self.folder, '--keep', '0')
+        self.assertEqual(self.archived(), ['%08d' % number for number in range(self.numbers()[-1])])
+        self.assertEqual(self.done('verify', self.folder), before)
+        os.remove(self.folder + '/keep/archive/00000007')
+        self.assertEqual(self.ledger('verify', self.folder).status, 3)
+
+    def test_none_is_archived_that_is_behind_the_checkpoint_or_that_is_missed(self) -> None:
+        self.write('%s/x' % self.check, b'')
+        for name in os.listdir(self.check):
+            os.remove('%s/%s' % (self.check, name))
+        self.assertEqual(self.done('archive', self.folder, '--keep', '0'), b'0 commits archived\n')
+        os.remove(self.folder + '/keep/ledger/00000007')
+        self.assertEqual(self.ledger('status', self.folder).err, 'snomon-site: %s/keep/ledger: lacks a commit\n' % self.folder)
 
 
 @unittest.skipUnless(os.path.exists(SITE), 'there is no site')

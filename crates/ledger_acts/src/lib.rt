@@ -1,10 +1,12 @@
 //! What the operator of a site does: it is made, data sets are put or put back, users come and go.
 #![tactic(auto)]
 
+pub mod archiving;
 pub mod making;
 pub mod moment;
 pub mod operating;
 
+pub use archiving::archive;
 pub use making::{Init, Sources, make_site};
 pub use moment::{Moment, read_moment};
 pub use operating::{

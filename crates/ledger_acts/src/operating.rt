@@ -1,4 +1,5 @@
 //! The operator's acts: data sets are put or put back, users come and go, and what the ledger says is printed.
+use crate::archiving::whole_ledger;
 use crate::making::{catalogue_at, make_user, put_access, put_user, system_users};
 use crate::moment::Moment;
 use deck_syntax::first_line;
@@ -6,7 +7,6 @@ use ledger_folder::{Fault, Host, Wrong, place_of, seconds_now, tables_in};
 use ledger_opening::{Site, state_of};
 use ledger_pruning::first_since;
 use ledger_restoring::{RestoreFault, restore_change};
-use ledger_run::read_ledger;
 use ledger_sets::{State, sets_change, tables_change};
 use ledger_site::past::said_in;
 use ledger_site::{count_behind, state_behind, stretch_of};
@@ -186,7 +186,7 @@ fn no_room<R: Host>(site: &Site<R>) -> Fault {
 
 fn state_at<R: Host>(site: &mut Site<R>, moment: Moment) -> Result<State, Fault> {
     let alloc = site.place.alloc();
-    let commits = read_ledger(alloc, &mut site.disk, u64::MAX)?;
+    let commits = whole_ledger(site)?;
     let count = match moment {
         Moment::Behind(number) => count_behind(alloc, &commits, number)?,
         Moment::At(time) if time <= seconds_now(&site.place.rt) => {
@@ -397,7 +397,7 @@ fn without_user<R: Host>(site: &Site<R>, account: &Name) -> Result<Vec<u8>, Faul
 /// printed, but for the numbers of jobs, which begin with 1 there.
 pub fn deck_of<R: Host>(site: &mut Site<R>, number: u64) -> Result<Vec<u8>, Fault> {
     let alloc = site.place.alloc();
-    let commits = read_ledger(alloc, &mut site.disk, u64::MAX)?;
+    let commits = whole_ledger(site)?;
     match stretch_of(alloc, &commits, number)? {
         Some(stretch) => composed(alloc, &stretch.state, &stretch.texts),
         None => Err(site.place.wrong("keep/ledger", Wrong::Words("has no run of this submission"))),

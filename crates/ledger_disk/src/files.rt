@@ -1,7 +1,7 @@
 //! The disk over the files of the system. This file is trusted for one thing that no contract says: that each method of `Disk` makes
 //! the calls of the system that it notes, on the paths that the names stand for.
 use crate::event::Event;
-use crate::paths::{Paths, number_of};
+use crate::paths::{Paths, lesser, number_of};
 use crate::record::Record;
 use crate::{Disk, DiskError, Folder, Identity, Name};
 use std::alloc::{AllocError, Global};
@@ -69,8 +69,15 @@ impl<R: System> FileDisk<R> {
         Ok(names)
     }
 
+    // A commit may have been archived: it is the same one there.
     fn read_file(&self, name: Name) -> io::Result<Option<Vec<u8>>> {
-        let path = self.paths.of(name)?;
+        match (self.read_at(&self.paths.of(name)?)?, name) {
+            (None, Name::Commit(number)) => self.read_at(&self.paths.archived(number)?),
+            (found, _) => Ok(found),
+        }
+    }
+
+    fn read_at(&self, path: &String) -> io::Result<Option<Vec<u8>>> {
         if_there(fs::read(&self.rt, path.as_str()))
     }
 
@@ -236,14 +243,5 @@ fn add_name<R: System>(
         Ok(entry) => Ok(names.push(String::from_str(alloc, entry.file_name())?)?),
         Err(error) if error.kind() == ErrorKind::InvalidFilename => Ok(()),
         Err(error) => Err(error),
-    }
-}
-
-fn lesser(least: Option<u64>, from: u64, number: Option<u64>) -> Option<u64> {
-    match (least, number) {
-        (_, Some(number)) if number < from => least,
-        (Some(least), Some(number)) => Some(least.min(number)),
-        (None, Some(number)) => Some(number),
-        (_, None) => least,
     }
 }

@@ -85,6 +85,11 @@ impl Paths {
         }
     }
 
+    /// The path of a commit that was archived.
+    pub(crate) fn archived(&self, number: u64) -> io::Result<String> {
+        self.numbered("archive", number)
+    }
+
     // What nobody said a name of has its number for one.
     fn claimed(&self, number: u64) -> io::Result<String> {
         for claimed in self.claimed.iter() {
@@ -129,6 +134,16 @@ pub(crate) fn number_of(name: &str) -> Option<u64> {
     match digits.parse::<u64>() {
         Ok(number) if !digits.starts_with('+') => Some(number),
         _ => None,
+    }
+}
+
+/// The lesser of the numbers from this one on, where there are any.
+pub(crate) fn lesser(least: Option<u64>, from: u64, number: Option<u64>) -> Option<u64> {
+    match (least, number) {
+        (_, Some(number)) if number < from => least,
+        (Some(least), Some(number)) => Some(least.min(number)),
+        (None, Some(number)) => Some(number),
+        (_, None) => least,
     }
 }
 

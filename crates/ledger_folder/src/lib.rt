@@ -10,5 +10,5 @@ pub mod tables;
 pub use disk::SiteDisk;
 pub use fault::{Fault, Wrong};
 pub use known::{add_answer, place_of};
-pub use place::{Host, Place, joined, seconds_now, text_of};
+pub use place::{ARCHIVE, Host, LEDGER, Place, joined, seconds_now, text_of};
 pub use tables::tables_in;

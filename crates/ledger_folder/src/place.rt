@@ -12,6 +12,12 @@ use std::time::{Clock, SystemTime, UNIX_EPOCH};
 /// How often a file is tried to be made that others may be making too.
 const OWNER_ATTEMPTS: u64 = 100;
 
+/// The folder of the commits.
+pub const LEDGER: &str = "keep/ledger";
+
+/// The folder of those that were archived.
+pub const ARCHIVE: &str = "keep/archive";
+
 /// What the program asks of the system.
 pub trait Host: ledger_disk::System + Clock + Eprint {}
 

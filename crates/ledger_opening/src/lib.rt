@@ -8,4 +8,4 @@ pub mod site;
 
 pub use attending::progress_there;
 pub use progress::Progress;
-pub use site::{Site, commits_there, open_site, runner_of, state_of, who_is};
+pub use site::{Site, commits_there, numbers_in, open_site, runner_of, state_of, who_is};

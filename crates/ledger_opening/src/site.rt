@@ -5,7 +5,7 @@ use crate::attending::Attended;
 use crate::checkpoint::known_there;
 use ledger_boxes::{FileBoxes, Owner};
 use ledger_folder::known::{add_answers, add_boxes, add_outs, held_files, know_claimed};
-use ledger_folder::{Fault, Host, Place, SiteDisk, Wrong, seconds_now, tables_in};
+use ledger_folder::{ARCHIVE, Fault, Host, LEDGER, Place, SiteDisk, Wrong, seconds_now, tables_in};
 use ledger_machine::{Bounds, SiteMachine, WatchedMachine};
 use ledger_run::{Ledger, finish_claims, open_behind, open_ledger};
 use ledger_sets::State;
@@ -76,12 +76,7 @@ pub fn open_site<R: Host>(rt: R, top: String) -> Result<Site<R>, Fault> {
     remove_drafts(&place)?;
     let commits = commits_there(&place)?;
     let known = know(&place, runner)?;
-    let site = follow(place, runner, known)?;
-    if site.ledger.commits == commits {
-        Ok(site)
-    } else {
-        Err(site.place.wrong("keep/ledger", LACKING))
-    }
+    follow(place, runner, known, commits)
 }
 
 // What an ended run, or a full disk, left of a file that was to be put whole.
@@ -93,29 +88,53 @@ fn remove_drafts<R: Host>(place: &Place<R>) -> Result<(), Fault> {
     Ok(())
 }
 
-/// How many commits stand in a site.
+/// How many commits a site has. Those that stand in its ledger follow one another; the ones before them were archived, and are not looked for.
 ///
 /// # Errors
 ///
-/// Where one of them is missing; what the system refuses.
+/// Where one between them is missing; what the system refuses.
 pub fn commits_there<R: Host>(place: &Place<R>) -> Result<u64, Fault> {
-    let folder = place.path("keep/ledger")?;
-    let names = place.names(&folder)?;
+    let numbers = numbers_in(place, LEDGER)?;
+    let mut first = u64::MAX;
     let mut behind = 0;
-    for name in names.iter() {
-        match read_count(name.as_bytes()) {
-            Ok(number) => behind = number.saturating_add(1).max(behind),
-            Err(_) => return Err(place.wrong(
-                "keep/ledger",
-                Wrong::Words("has a file of no number"),
-            )),
-        }
+    for number in numbers.iter() {
+        first = first.min(*number);
+        behind = number.saturating_add(1).max(behind);
     }
-    if behind == names.len() as u64 {
+    let lacking = behind
+        .saturating_sub(first)
+        .saturating_sub(numbers.len() as u64);
+    if lacking == 0 || lacking <= archived_behind(place, first)? {
         Ok(behind)
     } else {
-        Err(place.wrong("keep/ledger", LACKING))
+        Err(place.wrong(LEDGER, LACKING))
     }
+}
+
+// How many commits behind this one were archived: some are where that was broken off.
+fn archived_behind<R: Host>(place: &Place<R>, first: u64) -> Result<u64, Fault> {
+    if place.look(&place.path(ARCHIVE)?)?.is_none() {
+        return Ok(0);
+    }
+    let numbers = numbers_in(place, ARCHIVE)?;
+    let behind = numbers.iter().filter(|number| **number > first);
+    Ok(behind.count() as u64)
+}
+
+/// The numbers of the commits in a folder.
+///
+/// # Errors
+///
+/// Where it has another file; memory, and what the system refuses.
+pub fn numbers_in<R: Host>(place: &Place<R>, folder: &str) -> Result<Vec<u64>, Fault> {
+    let mut numbers = Vec::new(place.alloc());
+    for name in place.names(&place.path(folder)?)? {
+        match read_count(name.as_bytes()) {
+            Ok(number) => numbers.push(number)?,
+            Err(_) => return Err(place.wrong(folder, Wrong::Words("has a file of no number"))),
+        }
+    }
+    Ok(numbers)
 }
 
 fn know<R: Host>(place: &Place<R>, runner: u32) -> Result<Known<R>, Fault> {
@@ -135,8 +154,13 @@ fn know_boxes<R: Host>(place: &Place<R>, disk: SiteDisk<R>) -> Result<Known<R>, 
     Ok(known)
 }
 
-// The machine follows the ledger, and what that says is looked at.
-fn follow<R: Host>(place: Place<R>, runner: u32, known: Known<R>) -> Result<Site<R>, Fault> {
+// The machine follows the ledger, which has so many commits, and what that says is looked at.
+fn follow<R: Host>(
+    place: Place<R>,
+    runner: u32,
+    known: Known<R>,
+    commits: u64,
+) -> Result<Site<R>, Fault> {
     let mut known = known;
     let mut machine = new_machine(&place)?;
     let start = known_there(&place, &mut known.disk, &mut machine)?;
@@ -156,6 +180,9 @@ fn follow<R: Host>(place: Place<R>, runner: u32, known: Known<R>) -> Result<Site
             )?
         }
     };
+    if ledger.commits != commits {
+        return Err(place.wrong(LEDGER, LACKING));
+    }
     let desk = desk_of(&place, &mut known, &machine.machine, &ledger)?;
     machine.watch.bound(bounds_in(&desk.tables));
     let ended = times_ended(&machine.watch, &ledger);
@@ -244,10 +271,7 @@ pub fn state_of<'a, R: Host>(
 ) -> Result<&'a State, Fault> {
     match machine.state() {
         Some(state) if !state.tables.accounts.is_empty() => Ok(state),
-        Some(_) => Err(place.wrong(
-            "keep/ledger",
-            Wrong::Words("is of a site that is not made yet"),
-        )),
+        Some(_) => Err(place.wrong(LEDGER, Wrong::Words("is of a site that is not made yet"))),
         None => Err(Fault::Ledger),
     }
 }

@@ -6,8 +6,8 @@ mod telling;
 
 use clap::Error;
 use ledger_acts::{
-    Init, Put, accounts_of, add_user, catalogue_of, deck_of, del_user, limits_of, make_site,
-    put_file, restore_set, set_groups, set_limits,
+    Init, Put, accounts_of, add_user, archive, catalogue_of, deck_of, del_user, limits_of,
+    make_site, put_file, restore_set, set_groups, set_limits,
 };
 use ledger_folder::{Fault, Place};
 use ledger_opening::{Site, open_site, progress_there, runner_of};
@@ -125,6 +125,7 @@ fn serve_open(rt: &HostRuntime, site: &mut Site<HostRuntime>, act: Act) -> u8 {
         Act::Groups(groups) => tell_done(rt, set_groups(site, &groups)),
         Act::Limits(Some(file)) => tell_done(rt, set_limits(site, &file)),
         Act::Limits(None) => tell_text(rt, limits_of(site)),
+        Act::Archive(keep) => tell_text(rt, archive(site, keep)),
         Act::Deck(number) => tell_text(rt, deck_of(site, number)),
     }
 }

@@ -7,6 +7,9 @@ use mon_text::{Name, read_count, read_name};
 use std::alloc::{AllocError, Global};
 use std::convert::AsStr;
 
+/// So many of the last commits `archive` leaves where they are.
+const KEPT: u64 = 1_000;
+
 /// What is asked.
 #[derive(Drop)]
 pub enum Asked {
@@ -47,6 +50,8 @@ pub enum Act {
     Groups(NewGroups),
     /// To put the limits of a file in the place of those that stand, or to print these.
     Limits(Option<String>),
+    /// To put commits that no run reads apart, but for so many of the last.
+    Archive(u64),
     /// The deck of the submissions that ran, between two acts of the operator, with the one of this number.
     Deck(u64),
 }
@@ -86,6 +91,7 @@ fn read_act(alloc: Global, name: &str, of: &ArgMatches) -> Result<Act, Error> {
         "adduser" => read_new_user(alloc, of),
         "deluser" => Ok(Act::DelUser(name_in(alloc, word(of, "ACCOUNT"))?)),
         "limits" => Ok(Act::Limits(maybe(alloc, of, "FILE")?)),
+        "archive" => read_archive(alloc, of),
         "deck" => Ok(Act::Deck(number_in(alloc, word(of, "N"))?)),
         "status" => Ok(Act::Status),
         "accounts" => Ok(Act::Accounts),
@@ -181,6 +187,13 @@ fn read_new_user(alloc: Global, of: &ArgMatches) -> Result<Act, Error> {
     }))
 }
 
+fn read_archive(alloc: Global, of: &ArgMatches) -> Result<Act, Error> {
+    match of.get_str("keep") {
+        Some(word) => Ok(Act::Archive(number_in(alloc, word)?)),
+        None => Ok(Act::Archive(KEPT)),
+    }
+}
+
 fn own_of(alloc: Global, of: &ArgMatches, top: &str) -> Result<Own, Error> {
     let account = name_in(alloc, word(of, "account"))?;
     let top = String::from_str(alloc, top)?;
@@ -231,7 +244,7 @@ fn nothing(alloc: Global) -> Error {
     refusal(
         alloc,
         ErrorKind::MissingSubcommand,
-        "one of init, run, status, catalogue, verify, put, restore, accounts, adduser, groups, deluser, limits, deck, check, submit and queue is wanted",
+        "a command is wanted: `snomon-site --help` lists them",
     )
 }
 
@@ -324,6 +337,7 @@ fn add_operating<'a>(program: Command<'a>, alloc: Global) -> Result<Command<'a>,
     let program = add_command(program, groups_command(alloc))?;
     let program = add_command(program, del_user_command(alloc))?;
     let program = add_command(program, limits_command(alloc))?;
+    let program = add_command(program, archive_command(alloc))?;
     let program = add_command(program, deck_command(alloc))?;
     add_using(program, alloc)
 }
@@ -466,6 +480,12 @@ fn groups_command<'a>(alloc: Global) -> Result<Command<'a>, AllocError> {
 fn del_user_command<'a>(alloc: Global) -> Result<Command<'a>, AllocError> {
     let command = of_folder(alloc, "deluser", "Takes the user of an account away")?;
     command.arg(place(alloc, "ACCOUNT", "The account, which stays in the table"))
+}
+
+fn archive_command<'a>(alloc: Global) -> Result<Command<'a>, AllocError> {
+    let command = of_folder(alloc, "archive", "Puts commits that no run reads apart")?;
+    let help = "So many of the last commits stay where they are; 1,000 where it is not given";
+    command.arg(named(alloc, "keep", help).value_name("N"))
 }
 
 fn deck_command<'a>(alloc: Global) -> Result<Command<'a>, AllocError> {

@@ -2,7 +2,7 @@
 use crate::folders::check_folders;
 use crate::running::fault_of_box;
 use ledger_boxes::names_in_box;
-use ledger_folder::{Fault, Host, Place, SiteDisk, Wrong};
+use ledger_folder::{ARCHIVE, Fault, Host, Place, SiteDisk, Wrong};
 use ledger_machine::SiteMachine;
 use ledger_opening::{Site, commits_there};
 use ledger_run::read_ledger;
@@ -124,7 +124,12 @@ fn commits_in<R: Host>(place: &Place<R>) -> Result<Vec<Vec<u8>>, Fault> {
     };
     let count = count_commits(place)?;
     let mut disk = SiteDisk::new(place.rt.clone()?, &place.top, keep.uid())?;
-    Ok(read_ledger(place.alloc(), &mut disk, count)?)
+    let commits = read_ledger(place.alloc(), &mut disk, count)?;
+    if commits.len() as u64 == count {
+        Ok(commits)
+    } else {
+        Err(place.wrong(ARCHIVE, Wrong::Words("lacks a commit")))
+    }
 }
 
 // While a run adds commits, a list of their names may lack one for a moment.
