@@ -1,10 +1,6 @@
 //! Codes in words.
 
-use acl_text::print_list_refusal;
 use deck_lines::DeckError;
-use mon_acl::AclError;
-use mon_device::TextSink;
-use std::alloc::AllocError;
 
 /// What a code says of a line of the deck.
 pub(crate) fn cause_of(code: DeckError) -> &'static str {
@@ -24,26 +20,4 @@ pub(crate) fn cause_of(code: DeckError) -> &'static str {
         DeckError::OutOfPlace => "the card may not stand here",
         DeckError::Truncated => "the deck ends before its $STOP",
     }
-}
-
-/// Appends a code with what it says.
-///
-/// # Errors
-///
-/// Where a growth was refused; a part of it may have been appended then.
-pub(crate) fn put_cause(text: &str, cause: &str, out: &mut Vec<u8>) -> Result<(), AllocError> {
-    out.extend_from_slice(text.as_bytes())?;
-    out.extend_from_slice(b": ")?;
-    out.extend_from_slice(cause.as_bytes())
-}
-
-/// Appends why a text is no permission list, as commands are told it.
-///
-/// # Errors
-///
-/// Where a growth was refused; a part of it may have been appended then.
-pub(crate) fn put_list_cause(error: AclError, out: &mut Vec<u8>) -> Result<(), AllocError> {
-    let mut sink = TextSink::new(out);
-    print_list_refusal(error, &mut sink);
-    sink.settle()
 }

@@ -36,55 +36,40 @@ pub fn word_column(text: &[u8], wanted: usize) -> u64 {
 /// The column at which a line is refused for a code: of the character, or of the word, where it is one of these. A line may
 /// have so many characters.
 pub(crate) fn column_of(code: DeckError, text: &[u8], limit: usize) -> u64 {
-    let words = Words::of(text);
     match code {
         DeckError::LineTooLong => (limit as u64).saturating_add(1),
         DeckError::BadCharacter => bad_column(text),
-        DeckError::BadName => word_column(text, bad_name(&words)),
-        DeckError::BadNumber => word_column(text, bad_number(&words)),
+        DeckError::BadName => word_column(text, bad_word(text, true)),
+        DeckError::BadNumber => word_column(text, bad_word(text, false)),
         _ => word_column(text, 0),
     }
 }
 
 // The column of the first character that no line may have.
 fn bad_column(text: &[u8]) -> u64 {
-    for (index, byte) in text.iter().enumerate() {
-        if !(b' '..=b'~').contains(byte) {
-            return index as u64 + 1;
-        }
+    match text.iter().position(|byte| !(b' '..=b'~').contains(byte)) {
+        Some(index) => (index as u64).saturating_add(1),
+        None => 1,
     }
-    1
 }
 
-// The place of the first word that has to be a name and is none.
-fn bad_name(words: &Words<'_>) -> usize {
+// The place of the first word that has to be a name, or else a number or an option with one, and is none.
+fn bad_word(text: &[u8], is_name: bool) -> usize {
+    let words = Words::of(text);
     let from = match words.card() {
-        None => 0,
-        Some(Card::Tie) => 2,
-        Some(_) => 1,
+        None if is_name => 0,
+        Some(Card::Tie) if is_name => 2,
+        Some(Card::Job) if !is_name => 2,
+        _ => 1,
     };
     for place in from..words.len() {
-        if read_name(words.at(place)).is_err() {
-            return place;
-        }
-    }
-    0
-}
-
-// The place of the first word that has to be a number, or an option with one, and is none.
-fn bad_number(words: &Words<'_>) -> usize {
-    let from = if words.card() == Some(Card::Job) {
-        2
-    } else {
-        1
-    };
-    for place in from..words.len() {
-        let number = match words.at(place) {
-            [b'S', b'T', b'=', number @ ..] => number,
-            [b'M', b'A', b'T', b'C', b'H', b'=', number @ ..] => number,
-            number => number,
+        let is_good = match words.at(place) {
+            name if is_name => read_name(name).is_ok(),
+            [b'S', b'T', b'=', number @ ..] => read_count(number).is_ok(),
+            [b'M', b'A', b'T', b'C', b'H', b'=', number @ ..] => read_count(number).is_ok(),
+            number => read_count(number).is_ok(),
         };
-        if read_count(number).is_err() {
+        if !is_good {
             return place;
         }
     }

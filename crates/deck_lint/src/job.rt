@@ -1,15 +1,14 @@
 //! What is told of a job: its source listing, and then what is wrong with it.
 
-use crate::advice::put_cause;
 use crate::column::word_column;
 use crate::refusals::all_refusals;
 use crate::reporter::{Detail, NO_COLUMN, NO_STATEMENT, Reporter, SourceSpan};
 use deck_lines::UnitError;
 use deck_syntax::{JobDeck, UnitCard};
 use load_refusal::LoadError;
-use mon_text::put_number;
+use mon_device::{Sink, TextSink, print_number, print_word};
 use program_advice::{
-    Around, Instead, cause_of, instead_of_function, instead_of_keyword, instead_of_label,
+    Around, cause_of, instead_of_function, instead_of_keyword, instead_of_label,
     instead_of_variable,
 };
 use program_listing::{LooseKind, LooseName, Source, loose_names, put_rows, read_source};
@@ -58,9 +57,10 @@ impl Reporter {
         match self.detail {
             Detail::Mistakes => {}
             Detail::Jobs => case.put_outcome(refusals.is_empty(), &mut self.out)?,
-            Detail::Listing => case.put_listing(self.alloc, &source, &mut self.out)?,
+            Detail::Listing => case.put_listing(&source, &mut self.out)?,
         }
         self.tell_refusals(case, &source, refusals.as_slice())?;
+        self.tell_refusals(case, &source, &source.further)?;
         if !self.is_submission {
             self.tell_missing_sets(case)?;
         }
@@ -78,9 +78,6 @@ impl Reporter {
         for refusal in refusals {
             from = self.tell_refusal(case, source, *refusal, from)?;
         }
-        for refusal in &source.further {
-            from = self.tell_refusal(case, source, *refusal, from)?;
-        }
         Ok(())
     }
 
@@ -93,19 +90,10 @@ impl Reporter {
         from: usize,
     ) -> Result<usize, AllocError> {
         match refusal {
-            LoadError::NoSlot => {}
-            LoadError::NoAccount if !case.cards.is_good => {}
-            LoadError::NoAccount => {
-                let text = case.cards.card.as_slice();
-                let spot = SourceSpan {
-                    line: case.cards.line,
-                    statement: NO_STATEMENT,
-                    text,
-                    column: word_column(text, 1),
-                };
-                let what = self.no_account();
-                self.mistake(spot, what)?;
+            LoadError::NoAccount if case.cards.is_good => {
+                self.no_account(case.cards.line, &case.cards.card)?;
             }
+            LoadError::NoSlot | LoadError::NoAccount => {}
             LoadError::Cards(error) => {
                 let index = refused_tie(case.deck.ties.as_slice(), error, from);
                 self.tell_tie(case, error, index)?;
@@ -123,18 +111,22 @@ impl Reporter {
         index: usize,
     ) -> Result<(), AllocError> {
         let mut what = Vec::new(self.alloc);
+        let mut sink = TextSink::new(&mut what);
         match error {
             UnitError::UnitRange(unit) => {
-                put_field(b"U2 UNIT ", unit, &mut what)?;
-                what.extend_from_slice(b": units are 1 to 99")?;
+                sink.put(b"U2 UNIT");
+                print_number(unit, &mut sink);
+                sink.put(b": units are 1 to 99");
             }
             UnitError::UnitTwice(unit) => {
-                put_field(b"U1 UNIT ", unit, &mut what)?;
-                what.extend_from_slice(b": a card before it ties the unit")?;
+                sink.put(b"U1 UNIT");
+                print_number(unit, &mut sink);
+                sink.put(b": a card before it ties the unit");
             }
         }
+        sink.settle()?;
         let text = case.tie_text(self.alloc, index)?;
-        self.mistake(case.tie_spot(index, &text, 1), &what)
+        self.mistake(case.tie_spot(index, &text, 1), &[what.as_slice()])
     }
 
     fn tell_syntax(
@@ -143,18 +135,31 @@ impl Reporter {
         source: &Source,
         error: SyntaxError,
     ) -> Result<(), AllocError> {
-        let spot = case.program_spot(error.place, statement_of(source, error));
-        let mut what = Vec::new(self.alloc);
-        put_cause(error.code.text(), cause_at(spot, error.code), &mut what)?;
-        self.mistake(spot, &what)
+        // A card that is refused is a part of no statement.
+        let statement = match error.code {
+            SyntaxCode::NoEndLine
+            | SyntaxCode::NothingToContinue
+            | SyntaxCode::UnknownControlCard => NO_STATEMENT,
+            _ => source.statement_at(error.place),
+        };
+        let spot = case.program_spot(error.place, statement);
+        let index = spot.column.saturating_sub(1) as usize;
+        let around = match (spot.text.get(..index), spot.text.get(index..)) {
+            (Some(before), Some(from_here)) => Around::of(before, from_here),
+            _ => Around::of(spot.text, b""),
+        };
+        let cause = cause_of(error.code, around).text();
+        let code = error.code.text();
+        self.mistake(spot, &[code.as_bytes(), b": ".as_slice(), cause.as_bytes()])
     }
 
     // Tells which data sets the unit cards name that the catalogue doesn't have.
     fn tell_missing_sets(&mut self, case: &JobCase) -> Result<(), AllocError> {
+        let what = b"NO DATA SET: the catalogue has none of that name, but a command may make it";
         for (index, tie) in case.deck.ties.as_slice().iter().enumerate() {
-            if !self.has_set(&tie.set) {
+            if !self.sets.contains(&tie.set) {
                 let text = case.tie_text(self.alloc, index)?;
-                self.warning(case.tie_spot(index, &text, 2), NO_SET)?;
+                self.warning(case.tie_spot(index, &text, 2), &[what.as_slice()])?;
             }
         }
         Ok(())
@@ -173,101 +178,97 @@ impl Reporter {
         Ok(())
     }
 
+    // Tells of a name that leads nowhere what to write instead, where other systems have it.
     fn tell_name(&mut self, spot: SourceSpan<'_>, name: &LooseName) -> Result<(), AllocError> {
+        let capitals = name.name.as_bytes().to_ascii_uppercase(self.alloc)?;
+        let (before, otherwise) = said_of(name.kind);
+        let instead = match name.kind {
+            LooseKind::Label => instead_of_label(&capitals),
+            LooseKind::Function => instead_of_function(&capitals),
+            LooseKind::Keyword => instead_of_keyword(&capitals),
+            LooseKind::Variable => instead_of_variable(&capitals),
+            _ => None,
+        };
+        let cause = match instead {
+            Some(instead) => instead.text(),
+            None => otherwise,
+        };
         let mut what = Vec::new(self.alloc);
-        put_name_cause(self.alloc, name, &mut what)?;
+        let mut sink = TextSink::new(&mut what);
+        sink.put(before.as_bytes());
+        sink.put(name.name.as_bytes());
+        sink.put(b": ");
+        sink.put(cause.as_bytes());
+        sink.settle()?;
         match name.kind {
-            LooseKind::Label => self.mistake(spot, &what),
-            _ => self.warning(spot, &what),
+            LooseKind::Label => self.mistake(spot, &[what.as_slice()]),
+            _ => self.warning(spot, &[what.as_slice()]),
         }
     }
 }
-
-// The statement that is refused; none where a card is that is then a part of none.
-fn statement_of(source: &Source, error: SyntaxError) -> u64 {
-    match error.code {
-        SyntaxCode::NoEndLine | SyntaxCode::NothingToContinue | SyntaxCode::UnknownControlCard =>
-            NO_STATEMENT,
-        _ => source.statement_at(error.place),
-    }
-}
-
-// What is told of a unit card that names no data set of the catalogue.
-const NO_SET: &[u8] =
-    b"NO DATA SET: the catalogue has none of that name, but a command may make it";
 
 impl JobCase {
     // Appends the listing.
-    fn put_listing(
-        &self,
-        alloc: Global,
-        source: &Source,
-        out: &mut Vec<u8>,
-    ) -> Result<(), AllocError> {
-        self.put_heading(out)?;
+    fn put_listing(&self, source: &Source, out: &mut Vec<u8>) -> Result<(), AllocError> {
+        let limits = self.deck.limits.get();
+        let mut sink = TextSink::new(out);
+        self.print_name(&mut sink);
+        sink.put(b" STATEMENTS");
+        print_number(limits.statements, &mut sink);
+        sink.put(b" STEPS");
+        print_number(limits.steps, &mut sink);
+        sink.put(b"\n");
         for tie in self.deck.ties.as_slice() {
-            put_tie(tie, out)?;
-            out.extend_from_slice(b"\n")?;
+            print_tie(tie, &mut sink);
+            sink.put(b"\n");
         }
+        sink.settle()?;
         let lines = self.deck.lines.as_slice();
-        put_rows(alloc, self.first_line(), lines, source, out)
+        put_rows(self.first_line(), lines, source, out)
     }
 
     // Appends whether the job is loaded, where a slot is free.
     fn put_outcome(&self, loads: bool, out: &mut Vec<u8>) -> Result<(), AllocError> {
-        self.put_name(out)?;
-        out.extend_from_slice(if loads {
+        let mut sink = TextSink::new(out);
+        self.print_name(&mut sink);
+        sink.put(if loads {
             b" LOADS\n"
         } else {
             b" DOES NOT LOAD\n"
-        })
+        });
+        sink.settle()
     }
 
-    // Appends which job it is.
-    fn put_name(&self, out: &mut Vec<u8>) -> Result<(), AllocError> {
-        put_field(b"JOB ", self.deck.number, out)?;
-        out.extend_from_slice(b" ")?;
-        out.extend_from_slice(self.deck.account.as_bytes())?;
-        put_field(b" LINE ", self.cards.line, out)
-    }
-
-    fn put_heading(&self, out: &mut Vec<u8>) -> Result<(), AllocError> {
-        let limits = self.deck.limits.get();
-        self.put_name(out)?;
-        put_field(b" STATEMENTS ", limits.statements, out)?;
-        put_field(b" STEPS ", limits.steps, out)?;
-        out.extend_from_slice(b"\n")
+    // Puts which job it is.
+    fn print_name<S: Sink>(&self, sink: &mut S) {
+        sink.put(b"JOB");
+        print_number(self.deck.number, sink);
+        print_word(self.deck.account.as_bytes(), sink);
+        sink.put(b" LINE");
+        print_number(self.cards.line, sink);
     }
 
     // The line of the first card of its program; of the job's card, where there is none.
     fn first_line(&self) -> u64 {
-        match self.cards.first_line {
-            Some(line) => line,
-            None => self.cards.line,
-        }
+        self.cards.first_line.unwrap_or(self.cards.line)
     }
 
     // A unit card with one blank between its words.
     fn tie_text(&self, alloc: Global, index: usize) -> Result<Vec<u8>, AllocError> {
         let mut text = Vec::new(alloc);
+        let mut sink = TextSink::new(&mut text);
         if let Some(tie) = self.deck.ties.as_slice().get(index) {
-            put_tie(tie, &mut text)?;
+            print_tie(tie, &mut sink);
         }
+        sink.settle()?;
         Ok(text)
     }
 
     // Where a word of a unit card stands, whose text this is.
     fn tie_spot<'a>(&self, index: usize, text: &'a [u8], word: usize) -> SourceSpan<'a> {
-        let line = match self.cards.tie_lines.get(index) {
-            Some(line) => *line,
-            None => self.cards.line,
-        };
-        SourceSpan {
-            line,
-            statement: NO_STATEMENT,
-            text,
-            column: word_column(text, word),
-        }
+        let known = self.cards.tie_lines.get(index).copied();
+        let line = known.unwrap_or(self.cards.line);
+        SourceSpan::on_line(line, text, word_column(text, word))
     }
 
     // A place in the program, whose cards are counted from 1, and in a statement. Behind the last card there is no text.
@@ -286,15 +287,10 @@ impl JobCase {
     }
 }
 
-fn put_tie(tie: &UnitCard, out: &mut Vec<u8>) -> Result<(), AllocError> {
-    put_field(b"$UNIT ", tie.unit, out)?;
-    out.extend_from_slice(b" ")?;
-    out.extend_from_slice(tie.set.as_bytes())
-}
-
-fn put_field(name: &[u8], number: u64, out: &mut Vec<u8>) -> Result<(), AllocError> {
-    out.extend_from_slice(name)?;
-    put_number(number, out)
+fn print_tie<S: Sink>(tie: &UnitCard, sink: &mut S) {
+    sink.put(b"$UNIT");
+    print_number(tie.unit, sink);
+    print_word(tie.set.as_bytes(), sink);
 }
 
 // The index of the next unit card that is refused for this: one that ties a unit twice has another before it.
@@ -314,70 +310,28 @@ fn refused_tie(ties: &[UnitCard], error: UnitError, from: usize) -> usize {
     ties.len()
 }
 
-// Why a program is refused at this spot.
-fn cause_at(spot: SourceSpan<'_>, code: SyntaxCode) -> &'static str {
-    let index = spot.column.saturating_sub(1) as usize;
-    let (before, from_here) = match (spot.text.get(..index), spot.text.get(index..)) {
-        (Some(before), Some(from_here)) => (before, from_here),
-        _ => (spot.text, b"".as_slice()),
-    };
-    cause_of(code, Around::of(before, from_here)).text()
-}
-
-// What is said of a function that looks called, as in `*F (X)`.
-const NOT_CALLED: &str =
-    "*V is the value of a variable: P = F(X), and then *P, or call F behind the match";
-
-// What is said of a literal that names a file, as it seems.
-const NO_FILE: &str =
-    "a card ties the unit to a data set, as $UNIT 8 SET: here a length stands, for OUTPUT as (80A1), or nothing";
-
-// What is said of a function that is given `*V`.
-const TOO_LATE: &str =
-    "it needs the value at once: match up to it in one statement, and write LEN(N) in the next";
-
-// What is said of a name that leads nowhere: what to write instead, where other systems have it.
-fn put_name_cause(alloc: Global, name: &LooseName, out: &mut Vec<u8>) -> Result<(), AllocError> {
-    let capitals = name.name.as_bytes().to_ascii_uppercase(alloc)?;
-    let (before, instead, otherwise) = match name.kind {
-        LooseKind::Label => (
-            "NO LABEL ",
-            instead_of_label(&capitals),
-            "no statement has it",
+// What is said before a name that leads nowhere, and behind it where no other system has the name.
+fn said_of(kind: LooseKind) -> (&'static str, &'static str) {
+    match kind {
+        LooseKind::Label => ("NO LABEL ", "no statement has it"),
+        LooseKind::Function => ("NO FUNCTION ", "no literal of DEFINE has it"),
+        LooseKind::SmallLetters => ("SMALL LETTERS ", "the language's name is in capitals"),
+        LooseKind::NoTable => ("NO TABLE ", "no statement calls TABLE"),
+        LooseKind::Keyword => ("NO KEYWORD &", "there is none of that name"),
+        LooseKind::Variable => ("NO OUTPUT BY ", "it is a variable like others"),
+        LooseKind::NotCalled => (
+            "NOT CALLED ",
+            "*V is the value of a variable: P = F(X), and then *P, or call F behind the match",
         ),
-        LooseKind::Function => {
-            let instead = instead_of_function(&capitals);
-            ("NO FUNCTION ", instead, "no literal of DEFINE has it")
-        }
-        LooseKind::SmallLetters => ("SMALL LETTERS ", None, "the language's name is in capitals"),
-        LooseKind::NoTable => ("NO TABLE ", None, "no statement calls TABLE"),
-        LooseKind::Keyword => {
-            let instead = instead_of_keyword(&capitals);
-            ("NO KEYWORD &", instead, "there is none of that name")
-        }
-        LooseKind::Variable => {
-            let instead = instead_of_variable(&capitals);
-            ("NO OUTPUT BY ", instead, "it is a variable like others")
-        }
-        LooseKind::NotCalled => ("NOT CALLED ", None, NOT_CALLED),
-        LooseKind::File => ("NO FILE ", None, NO_FILE),
-        LooseKind::LaterArgument => ("TOO LATE ", None, TOO_LATE),
-        LooseKind::Statements => (
-            "OUT OF RANGE &",
-            None,
-            "ST= on the $JOB card raises the limit",
+        LooseKind::File => (
+            "NO FILE ",
+            "a card ties the unit to a data set, as $UNIT 8 SET: here a length stands, for OUTPUT as (80A1), or nothing",
         ),
-        LooseKind::Characters => ("OUT OF RANGE &", None, "it is 0 to 100,000"),
-    };
-    out.extend_from_slice(before.as_bytes())?;
-    out.extend_from_slice(name.name.as_bytes())?;
-    out.extend_from_slice(b": ")?;
-    out.extend_from_slice(text_of(instead, otherwise).as_bytes())
-}
-
-fn text_of(instead: Option<Instead>, otherwise: &'static str) -> &'static str {
-    match instead {
-        Some(instead) => instead.text(),
-        None => otherwise,
+        LooseKind::LaterArgument => (
+            "TOO LATE ",
+            "it needs the value at once: match up to it in one statement, and write LEN(N) in the next",
+        ),
+        LooseKind::Statements => ("OUT OF RANGE &", "ST= on the $JOB card raises the limit"),
+        LooseKind::Characters => ("OUT OF RANGE &", "it is 0 to 100,000"),
     }
 }

@@ -15,4 +15,4 @@ mod ties;
 pub use column::{is_line_code, is_stream_card, word_column};
 pub use job::{JobCards, JobCase};
 pub use refusals::all_refusals;
-pub use reporter::{Detail, NO_COLUMN, NO_STATEMENT, Reporter, SourceSpan, Tally};
+pub use reporter::{Detail, NO_COLUMN, Reporter, SourceSpan, Tally};

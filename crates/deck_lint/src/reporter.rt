@@ -1,12 +1,14 @@
 //! What a review knows of the deck so far, and what it tells: mistakes and warnings, each with where it is, what it is, the text,
 //! and a caret under the column.
 
-use crate::advice::{cause_of, put_cause, put_list_cause};
-use crate::column::column_of;
+use crate::advice::cause_of;
+use crate::column::{column_of, word_column};
+use acl_text::print_list_refusal;
 use deck_lines::DeckError;
 use mon_access::Accounts;
 use mon_acl::AclError;
-use mon_text::{Name, put_number};
+use mon_device::{Sink, TextSink, print_number};
+use mon_text::Name;
 use std::alloc::{AllocError, Global};
 
 /// How many characters of a line are shown at the most.
@@ -25,6 +27,18 @@ pub struct SourceSpan<'a> {
     pub statement: u64,
     pub text: &'a [u8],
     pub column: u64,
+}
+
+impl<'a> SourceSpan<'a> {
+    /// A place on a line, and in no statement.
+    pub fn on_line(line: u64, text: &'a [u8], column: u64) -> SourceSpan<'a> {
+        SourceSpan {
+            line,
+            statement: NO_STATEMENT,
+            text,
+            column,
+        }
+    }
 }
 
 /// How much is told.
@@ -88,14 +102,14 @@ impl Reporter {
         }
     }
 
-    /// Tells a mistake.
-    pub fn mistake(&mut self, spot: SourceSpan<'_>, what: &[u8]) -> Result<(), AllocError> {
+    /// Tells a mistake: what it is, in parts.
+    pub fn mistake(&mut self, spot: SourceSpan<'_>, what: &[&[u8]]) -> Result<(), AllocError> {
         self.tally.mistakes = self.tally.mistakes.saturating_add(1);
         put_told(spot, b" ", what, &mut self.out)
     }
 
     /// Tells a warning, unless mistakes alone are told.
-    pub fn warning(&mut self, spot: SourceSpan<'_>, what: &[u8]) -> Result<(), AllocError> {
+    pub fn warning(&mut self, spot: SourceSpan<'_>, what: &[&[u8]]) -> Result<(), AllocError> {
         self.tally.warnings = self.tally.warnings.saturating_add(1);
         if self.detail == Detail::Mistakes {
             return Ok(());
@@ -108,25 +122,22 @@ impl Reporter {
         &mut self,
         text: &[u8],
         column: u64,
-        what: &[u8],
+        what: &[&[u8]],
     ) -> Result<(), AllocError> {
-        let spot = SourceSpan {
-            line: self.line,
-            statement: NO_STATEMENT,
-            text,
-            column,
-        };
-        self.mistake(spot, what)
+        self.mistake(SourceSpan::on_line(self.line, text, column), what)
     }
 
     /// Tells that the line that is looked at is refused. It may have so many characters.
     pub fn refuse(&mut self, code: DeckError, text: &[u8], limit: usize) -> Result<(), AllocError> {
-        let mut what = Vec::new(self.alloc);
-        put_cause(code.text(), cause_of(code), &mut what)?;
+        let what = [
+            code.text().as_bytes(),
+            b": ".as_slice(),
+            cause_of(code).as_bytes(),
+        ];
         self.mistake_here(text, column_of(code, text, limit), &what)
     }
 
-    /// Tells that the line that is looked at is, or ends, no permission list.
+    /// Tells that the line that is looked at is, or ends, no permission list, as commands are told it.
     pub fn refuse_list(
         &mut self,
         error: AclError,
@@ -134,72 +145,62 @@ impl Reporter {
         column: u64,
     ) -> Result<(), AllocError> {
         let mut what = Vec::new(self.alloc);
-        put_list_cause(error, &mut what)?;
-        self.mistake_here(text, column, &what)
+        let mut sink = TextSink::new(&mut what);
+        print_list_refusal(error, &mut sink);
+        sink.settle()?;
+        self.mistake_here(text, column, &[what.as_slice()])
     }
 
-    /// What is told of a card that names no account of the table.
-    pub fn no_account(&self) -> &'static [u8] {
-        if self.is_submission {
-            b"I1 FOREIGN ACCOUNT: the card names another account"
+    /// Tells that a card, on a line, names no account of the table.
+    pub fn no_account(&mut self, line: u64, card: &[u8]) -> Result<(), AllocError> {
+        let what = if self.is_submission {
+            b"I1 FOREIGN ACCOUNT: the card names another account".as_slice()
         } else {
-            b"M2 NO ACCOUNT: no account has that name"
-        }
-    }
-
-    /// Whether a data set of this name was in the catalogue.
-    pub fn has_set(&self, name: &Name) -> bool {
-        self.sets.contains(name)
+            b"M2 NO ACCOUNT: no account has that name".as_slice()
+        };
+        let spot = SourceSpan::on_line(line, card, word_column(card, 1));
+        self.mistake(spot, &[what])
     }
 }
 
-// Appends what is told of a spot.
+// Appends what is told of a spot; and where it has a column, the first characters of its text, with a question mark for each that
+// can't be printed, and a caret under the column, if that much of the text is shown.
 fn put_told(
     spot: SourceSpan<'_>,
     kind: &[u8],
-    what: &[u8],
+    what: &[&[u8]],
     out: &mut Vec<u8>,
 ) -> Result<(), AllocError> {
-    out.extend_from_slice(b"LINE ")?;
-    put_number(spot.line, out)?;
-    put_statement(spot.statement, out)?;
-    out.extend_from_slice(kind)?;
-    out.extend_from_slice(what)?;
-    out.extend_from_slice(b"\n")?;
-    if spot.column == NO_COLUMN {
-        return Ok(());
+    let mut sink = TextSink::new(out);
+    sink.put(b"LINE");
+    print_number(spot.line, &mut sink);
+    if spot.statement != NO_STATEMENT {
+        sink.put(b" STATEMENT");
+        print_number(spot.statement, &mut sink);
     }
-    put_text(spot.text, out)?;
-    put_caret(spot.column, out)
+    sink.put(kind);
+    for part in what {
+        sink.put(part);
+    }
+    sink.put(b"\n");
+    if spot.column != NO_COLUMN {
+        print_text(spot, &mut sink);
+    }
+    sink.settle()
 }
 
-// Appends the number of a statement, where there is one.
-fn put_statement(statement: u64, out: &mut Vec<u8>) -> Result<(), AllocError> {
-    if statement == NO_STATEMENT {
-        return Ok(());
-    }
-    out.extend_from_slice(b" STATEMENT ")?;
-    put_number(statement, out)
-}
-
-// Appends the first characters of a text, with a question mark for each that can't be printed.
-fn put_text(text: &[u8], out: &mut Vec<u8>) -> Result<(), AllocError> {
-    out.extend_from_slice(b"    ")?;
-    for byte in text.iter().take(MOST_SHOWN) {
+fn print_text<S: Sink>(spot: SourceSpan<'_>, sink: &mut S) {
+    sink.put(b"    ");
+    for byte in spot.text.iter().take(MOST_SHOWN) {
         let is_printable = (b' '..=b'~').contains(byte);
-        out.push(if is_printable { *byte } else { b'?' })?;
+        sink.put(&[if is_printable { *byte } else { b'?' }]);
     }
-    out.extend_from_slice(b"\n")
-}
-
-// Appends a caret under a column, if that much of the text is shown.
-fn put_caret(column: u64, out: &mut Vec<u8>) -> Result<(), AllocError> {
-    if column > MOST_SHOWN as u64 + 1 {
-        return Ok(());
+    sink.put(b"\n");
+    if spot.column <= MOST_SHOWN as u64 + 1 {
+        sink.put(b"    ");
+        for _ in 1..spot.column {
+            sink.put(b" ");
+        }
+        sink.put(b"^\n");
     }
-    out.extend_from_slice(b"    ")?;
-    for _ in 1..column {
-        out.push(b' ')?;
-    }
-    out.extend_from_slice(b"^\n")
 }

@@ -2,7 +2,7 @@
 //! set, and goes on behind a refusal, also to another part: so it asks for each line by itself, and not the reader of fronts.
 
 use crate::review::{Part, Review};
-use deck_lines::{Card, MOST_LINE_CHARACTERS, Words};
+use deck_lines::{Card, Words};
 use deck_lint::is_stream_card;
 use deck_syntax::{opens_accounts, put_account_line};
 use mon_catalogue::Version;
@@ -12,28 +12,22 @@ impl Review {
     /// Takes a line before the account table: whether it was read there.
     pub(crate) fn take_opening_line(&mut self, text: &[u8]) -> Result<bool, AllocError> {
         match opens_accounts(self.reporter.alloc, text) {
-            Ok(opens) => {
-                if opens {
-                    self.part = Part::Accounts;
-                }
-                Ok(true)
-            }
-            Err(stop) => self.refuse(stop, text, MOST_LINE_CHARACTERS),
+            Ok(true) => self.part = Part::Accounts,
+            Ok(false) => {}
+            Err(stop) => return self.refuse(stop, text),
         }
+        Ok(true)
     }
 
     /// Takes a line of the account table: whether it was read there.
     pub(crate) fn take_account_line(&mut self, text: &[u8]) -> Result<bool, AllocError> {
         let alloc = self.reporter.alloc;
         match put_account_line(alloc, &mut self.reporter.accounts, text) {
-            Ok(opened) => {
-                if let Some(version) = opened {
-                    self.open_catalogue(version);
-                }
-                Ok(true)
-            }
-            Err(stop) => self.refuse(stop, text, MOST_LINE_CHARACTERS),
+            Ok(Some(version)) => self.open_catalogue(version),
+            Ok(None) => {}
+            Err(stop) => return self.refuse(stop, text),
         }
+        Ok(true)
     }
 
     /// A line was refused where it stands: the review goes on where its card leads to, as if what lacks before it were there.

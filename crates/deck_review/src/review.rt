@@ -1,13 +1,13 @@
 //! A review of a deck, line by line. It goes on behind a line that is refused: that is read once more where its card leads to.
 
 use crate::catalogue::{Due, SetHead};
-use deck_lines::DeckError;
-use deck_lint::{Detail, JobCards, NO_COLUMN, NO_STATEMENT, Reporter, SourceSpan, is_line_code};
-use deck_syntax::{StreamReader, first_line, put_account_line};
-use mon_access::Accounts;
+use deck_lines::{DeckError, MOST_LINE_CHARACTERS};
+use deck_lint::{Detail, JobCards, NO_COLUMN, Reporter, SourceSpan, is_line_code};
+use deck_syntax::{StreamReader, first_line};
 use mon_acl::{Acl, AclError};
 use mon_catalogue::Version;
-use mon_text::{Name, Stop, put_number};
+use mon_device::{Sink, TextSink, print_number};
+use mon_text::{Name, Stop};
 use std::alloc::{AllocError, Global};
 
 /// Which part of a deck the next line belongs to.
@@ -37,19 +37,9 @@ pub fn review_submission(
     text: &[u8],
 ) -> Result<Reporter, AllocError> {
     let mut review = Review::of_submission(alloc, detail, own)?;
-    review.take_all(text)?;
-    Ok(review.into_reporter())
-}
-
-// The account table of a submission: the account that submits it, alone.
-fn own_table(alloc: Global, own: &Name) -> Result<Accounts, AllocError> {
-    let mut line = Vec::from_slice(alloc, own.as_bytes())?;
-    line.extend_from_slice(b" users")?;
-    let mut accounts = Accounts::new(alloc);
-    match put_account_line(alloc, &mut accounts, &line) {
-        Ok(_) => Ok(accounts),
-        Err(_) => Err(AllocError),
-    }
+    review.take_lines(text)?;
+    review.finish()?;
+    Ok(review.reporter)
 }
 
 /// A review of a deck. Each of its methods has an error where a growth was refused; the review is then of no use.
@@ -83,23 +73,13 @@ impl Review {
 
     /// The start of a review of what an account submits: a part of a deck's stream. All its cards are to name that account.
     pub fn of_submission(alloc: Global, detail: Detail, own: &Name) -> Result<Review, AllocError> {
-        let accounts = own_table(alloc, own)?;
+        let mut line = Vec::from_slice(alloc, own.as_bytes())?;
+        line.extend_from_slice(b" users")?;
         let mut review = Review::new(alloc, detail);
-        review.reporter.accounts = accounts;
+        review.take_account_line(&line)?;
         review.reporter.is_submission = true;
         review.part = Part::Stream;
         Ok(review)
-    }
-
-    // Takes a whole text.
-    fn take_all(&mut self, text: &[u8]) -> Result<(), AllocError> {
-        self.take_lines(text)?;
-        self.finish()
-    }
-
-    // What it told, and knows of the deck.
-    fn into_reporter(self) -> Reporter {
-        self.reporter
     }
 
     // Takes all lines of a text.
@@ -141,33 +121,28 @@ impl Review {
     pub fn finish(&mut self) -> Result<(), AllocError> {
         if let Some(what) = self.end_lacking() {
             self.end_body()?;
-            let spot = SourceSpan {
-                line: self.reporter.line.saturating_add(1),
-                statement: NO_STATEMENT,
-                text: b"".as_slice(),
-                column: NO_COLUMN,
-            };
-            self.reporter.mistake(spot, what)?;
-            self.put_unfinished()?;
+            let line = self.reporter.line.saturating_add(1);
+            let spot = SourceSpan::on_line(line, b"", NO_COLUMN);
+            self.reporter.mistake(spot, &[what.as_bytes()])?;
+            if let (Part::Catalogue(_), Due::List(_) | Due::Records(_)) = (self.part, self.due) {
+                self.put_head(b"    in data set ")?;
+            }
         }
         self.put_tally()
     }
 
     // What is told of the end, where it comes too early.
-    fn end_lacking(&self) -> Option<&'static [u8]> {
-        if self.reporter.is_submission {
-            match &self.reader {
-                StreamReader::Cards => None,
-                StreamReader::Job(_) => Some(b"I3 UNFINISHED: it ends before the $EOJ of a job"),
-                StreamReader::List(_) => Some(
-                    b"I3 UNFINISHED: it ends before the $ENDACL of a list",
-                ),
-            }
-        } else {
-            match self.part {
+    fn end_lacking(&self) -> Option<&'static str> {
+        if !self.reporter.is_submission {
+            return match self.part {
                 Part::Ended => None,
-                _ => Some(b"E4 TRUNCATED: the deck ends before its $STOP"),
-            }
+                _ => Some("E4 TRUNCATED: the deck ends before its $STOP"),
+            };
+        }
+        match &self.reader {
+            StreamReader::Cards => None,
+            StreamReader::Job(_) => Some("I3 UNFINISHED: it ends before the $EOJ of a job"),
+            StreamReader::List(_) => Some("I3 UNFINISHED: it ends before the $ENDACL of a list"),
         }
     }
 
@@ -175,38 +150,45 @@ impl Review {
         if self.reporter.detail == Detail::Mistakes {
             return Ok(());
         }
-        let (tally, out) = (self.reporter.tally, &mut self.reporter.out);
-        out.extend_from_slice(b"MISTAKES ")?;
-        put_number(tally.mistakes, out)?;
-        out.extend_from_slice(b" WARNINGS ")?;
-        put_number(tally.warnings, out)?;
-        out.extend_from_slice(b"\n")
+        let tally = self.reporter.tally;
+        let mut sink = TextSink::new(&mut self.reporter.out);
+        sink.put(b"MISTAKES");
+        print_number(tally.mistakes, &mut sink);
+        sink.put(b" WARNINGS");
+        print_number(tally.warnings, &mut sink);
+        sink.put(b"\n");
+        sink.settle()
     }
 
-    // Tells why a line is refused, which may have so many characters: whether it is read nowhere else for this.
+    // Tells why a line outside the catalogue is refused: whether it is read nowhere else for this.
     pub(crate) fn refuse(
         &mut self,
         stop: Stop<DeckError>,
         text: &[u8],
-        most: usize,
     ) -> Result<bool, AllocError> {
         match stop {
             Stop::Refused(code) => {
-                self.reporter.refuse(code, text, most)?;
+                self.reporter.refuse(code, text, MOST_LINE_CHARACTERS)?;
                 Ok(is_line_code(code))
             }
             Stop::Memory => Err(AllocError),
         }
     }
-}
 
-// Why a text is no permission list, if it is none.
-pub(crate) fn list_refusal(
-    read: Result<Acl, Stop<AclError>>,
-) -> Result<Option<AclError>, AllocError> {
-    match read {
-        Ok(_acl) => Ok(None),
-        Err(Stop::Refused(error)) => Ok(Some(error)),
-        Err(Stop::Memory) => Err(AllocError),
+    // Tells why a text is no permission list, if it is none: whether it is none.
+    pub(crate) fn tell_list(
+        &mut self,
+        read: Result<Acl, Stop<AclError>>,
+        text: &[u8],
+        column: u64,
+    ) -> Result<bool, AllocError> {
+        match read {
+            Ok(_acl) => Ok(false),
+            Err(Stop::Refused(error)) => {
+                self.reporter.refuse_list(error, text, column)?;
+                Ok(true)
+            }
+            Err(Stop::Memory) => Err(AllocError),
+        }
     }
 }

@@ -1,8 +1,8 @@
 //! The stream of a deck: what the reader's events say, and what is read behind a line that it refuses.
 
-use crate::review::{Part, Review, list_refusal};
+use crate::review::{Part, Review};
 use acl_text::AclText;
-use deck_lines::{Card, Command, MOST_LINE_CHARACTERS, Words, begins_with_dollar};
+use deck_lines::{Card, Command, Words, begins_with_dollar};
 use deck_lint::{JobCards, JobCase, is_stream_card, word_column};
 use deck_syntax::{Event, JobLimits, OpenJob, OpenList, StreamReader};
 use mon_text::{Name, Stop, read_name};
@@ -18,7 +18,7 @@ impl Review {
                 Ok(true)
             }
             Err(stop) => {
-                let is_final = self.refuse(stop, text, MOST_LINE_CHARACTERS)?;
+                let is_final = self.refuse(stop, text)?;
                 self.follow_refused(is_final, text)
             }
         }
@@ -37,7 +37,7 @@ impl Review {
             Event::Turns(_) | Event::Drains => Ok(()),
             Event::Stops if self.reporter.is_submission => {
                 let what = b"I2 STOP CARD: it would end the run for all";
-                self.reporter.mistake_here(text, 1, what)
+                self.reporter.mistake_here(text, 1, &[what.as_slice()])
             }
             Event::Stops => {
                 self.part = Part::Ended;
@@ -78,18 +78,19 @@ impl Review {
 
     // Tells that there is no account of this name, if there is none.
     fn tell_account(&mut self, name: &Name, text: &[u8]) -> Result<(), AllocError> {
-        if self.reporter.accounts.find(name).is_some() {
-            return Ok(());
+        let line = self.reporter.line;
+        match self.reporter.accounts.find(name) {
+            Some(_) => Ok(()),
+            None => self.reporter.no_account(line, text),
         }
-        let what = self.reporter.no_account();
-        self.reporter.mistake_here(text, word_column(text, 1), what)
     }
 
     // The account of a list in lines was told of at its card.
     fn tell_command(&mut self, command: &Command, text: &[u8]) -> Result<(), AllocError> {
+        let alloc = self.reporter.alloc;
         match command {
             Command::SetAcl { text: list, .. } if matches!(list, AclText::Long(_)) => {
-                self.tell_list(list, text, 1)
+                self.tell_list(list.read(alloc), text, 1)?;
             }
             Command::SetAcl {
                 account,
@@ -97,18 +98,11 @@ impl Review {
                 ..
             } => {
                 self.tell_account(account, text)?;
-                self.tell_list(list, text, word_column(text, 3))
+                self.tell_list(list.read(alloc), text, word_column(text, 3))?;
             }
-            _ => self.tell_account(command.account(), text),
+            _ => self.tell_account(command.account(), text)?,
         }
-    }
-
-    // Tells why a text is no permission list, if it is none.
-    fn tell_list(&mut self, list: &AclText, text: &[u8], column: u64) -> Result<(), AllocError> {
-        match list_refusal(list.read(self.reporter.alloc))? {
-            Some(error) => self.reporter.refuse_list(error, text, column),
-            None => Ok(()),
-        }
+        Ok(())
     }
 
     // What is read behind a line that is refused: whether it is not to be read once more. A card of the stream ends a list that has
@@ -184,11 +178,10 @@ impl Review {
 // The account that a card names; another name, where it names none.
 fn name_on(words: &Words<'_>) -> Result<Name, AllocError> {
     let word = if words.len() > 1 { words.at(1) } else { b"" };
-    let name = match read_name(word) {
-        Err(_) => read_name(b"unknown"),
-        name => name,
-    };
-    match name {
+    if let Ok(name) = read_name(word) {
+        return Ok(name);
+    }
+    match read_name(b"unknown") {
         Ok(name) => Ok(name),
         Err(_) => Err(AllocError),
     }

@@ -46,8 +46,8 @@ pub fn read_asked<S: AsStr>(alloc: Global, words: &[S]) -> Result<Asked, Error> 
 
 fn read_access(alloc: Global, matches: &ArgMatches) -> Result<Asked, Error> {
     if matches.get_flag("quiet") || matches.get_flag("text") {
-        let text = "--quiet and --text go without --access";
-        return Err(in_conflict(alloc, text)?);
+        let what = "--quiet and --text go without --access";
+        return Err(refused(alloc, ErrorKind::ArgumentConflict, what)?);
     }
     let account = name_in(alloc, matches, "account")?;
     let set = name_in(alloc, matches, "set")?;
@@ -61,11 +61,12 @@ fn read_access(alloc: Global, matches: &ArgMatches) -> Result<Asked, Error> {
 
 fn read_listing(alloc: Global, matches: &ArgMatches) -> Result<Asked, Error> {
     if matches.get_flag("csv") || matches.get_str("set").is_some() {
-        return Err(in_conflict(alloc, "--csv and --set go with --access")?);
+        let what = "--csv and --set go with --access";
+        return Err(refused(alloc, ErrorKind::ArgumentConflict, what)?);
     }
     if matches.get_flag("text") != matches.get_str("account").is_some() {
-        let text = "--text and --account go together, and --account with --access";
-        return Err(in_conflict(alloc, text)?);
+        let what = "--text and --account go together, and --account with --access";
+        return Err(refused(alloc, ErrorKind::ArgumentConflict, what)?);
     }
     let own = name_in(alloc, matches, "account")?;
     let detail = if matches.get_flag("quiet") {
@@ -87,23 +88,19 @@ fn name_in(alloc: Global, matches: &ArgMatches, id: &str) -> Result<Option<Name>
             Err(_) => {
                 let what =
                     "a name is 1 to 31 characters: a letter, then letters, digits, `.`, `_` or `-`";
-                Err(command(alloc)?.error(ErrorKind::ValueValidation, what)?)
+                Err(refused(alloc, ErrorKind::ValueValidation, what)?)
             }
         },
     }
 }
 
-fn in_conflict(alloc: Global, text: &str) -> Result<Error, AllocError> {
-    command(alloc)?.error(ErrorKind::ArgumentConflict, text)
-}
-
-/// The error for a word that is no text, and so no option.
+/// The error for words that ask nothing, for this reason.
 ///
 /// # Errors
 ///
 /// Where a growth was refused.
-pub fn no_text(alloc: Global) -> Result<Error, AllocError> {
-    command(alloc)?.error(ErrorKind::UnknownArgument, "a word is no text in UTF-8")
+pub fn refused(alloc: Global, kind: ErrorKind, what: &str) -> Result<Error, AllocError> {
+    command(alloc)?.error(kind, what)
 }
 
 // What follows the list of options in the help.

@@ -2,7 +2,7 @@
 ghost use Rattle.std.specs.Prelude.{◌≡◌, IfSome};
 ghost use Rattle.access_report.specs.Reports.{ReportedTo, status_of};
 
-use crate::options::{Asked, Listing, no_text, read_asked};
+use crate::options::{Asked, read_asked, refused};
 use crate::streams::review_streams;
 use access_report::{Fault, Question, report_streams};
 use clap::Error;
@@ -29,7 +29,11 @@ pub fn run<S: AsStr + Drop, R: Read, W: Write, E: Write>(
     errors: &mut E,
 ) -> u8 {
     match given_words(alloc, words) {
-        Ok(Asked::Listing(listing)) => run_listing(alloc, &listing, input, output, errors),
+        Ok(Asked::Listing(listing)) => match review_streams(alloc, &listing, input, output) {
+            Ok(tally) if tally.mistakes > 0 => HAS_MISTAKES,
+            Ok(_) => 0,
+            Err(fault) => tell(alloc, fault, errors),
+        },
         Ok(Asked::Access(question)) => run_access(alloc, &question, input, output, errors),
         Err(error) if error.kind() == ErrorKind::OutOfMemory => tell(alloc, Fault::Memory, errors),
         Err(error) if error.use_stderr() => {
@@ -59,21 +63,6 @@ pub fn run_access<R: Read, W: Write, E: Write>(
     }
 }
 
-/// Lists the jobs of a deck or of a submission, and the mistakes; or, where it is quiet, these alone.
-pub fn run_listing<R: Read, W: Write, E: Write>(
-    alloc: Global,
-    listing: &Listing,
-    input: &mut R,
-    output: &mut W,
-    errors: &mut E,
-) -> u8 {
-    match review_streams(alloc, listing, input, output) {
-        Ok(tally) if tally.mistakes > 0 => HAS_MISTAKES,
-        Ok(_) => 0,
-        Err(fault) => tell(alloc, fault, errors),
-    }
-}
-
 // Tells a fault, as far as that can be done, and gives its status.
 fn tell<E: Write>(alloc: Global, fault: Fault, errors: &mut E) -> u8
     ensures { result ≡ status_of fault }
@@ -89,7 +78,10 @@ fn tell<E: Write>(alloc: Global, fault: Fault, errors: &mut E) -> u8
 fn given_words<S: AsStr + Drop>(alloc: Global, words: io::Result<Vec<S>>) -> Result<Asked, Error> {
     match words {
         Ok(words) => read_asked(alloc, words.as_slice()),
-        Err(error) if error.kind() == io::ErrorKind::InvalidData => Err(no_text(alloc)?),
+        Err(error) if error.kind() == io::ErrorKind::InvalidData => {
+            let what = "a word is no text in UTF-8";
+            Err(refused(alloc, ErrorKind::UnknownArgument, what)?)
+        }
         Err(_) => Err(Error::from(AllocError)),
     }
 }

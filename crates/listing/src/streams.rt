@@ -86,11 +86,9 @@ fn read_piece<R: Read>(input: &mut R, buffer: &mut [u8]) -> Result<usize, Fault>
 
 // Writes what was gathered, and gathers anew.
 fn write_out<W: Write>(output: &mut W, out: &mut Vec<u8>) -> Result<(), Fault> {
-    match output.write_all(out.as_slice()) {
-        Ok(()) => {
-            out.clear();
-            Ok(())
-        }
-        Err(_) => Err(Fault::WriteFault),
+    if output.write_all(out.as_slice()).is_err() {
+        return Err(Fault::WriteFault);
     }
+    out.clear();
+    Ok(())
 }

@@ -1,5 +1,6 @@
 //! The characters around a place of a line.
-ghost use Rattle.std.specs.Prelude.{◌≡◌, find, reverse, slice_get, option_copied};
+ghost use Rattle.std.specs.Prelude.{◌≡◌, find, reverse, option_copied};
+ghost use Rattle.mon_text.specs.Characters.{is_identifier_character};
 ghost use Rattle.program_advice.specs.Causes.{or_end, is_apart, is_no_blank, around};
 
 use crate::brackets::open_behind;
@@ -33,7 +34,7 @@ impl Around {
     {
         Around {
             sign: last_apart(before),
-            before: last(before),
+            before: or_end(before.last()),
             ended: last_in_print(before),
             opened: open_behind(before),
             here: or_end(from_here.first()),
@@ -41,12 +42,6 @@ impl Around {
             follows: first_apart(from_here),
         }
     }
-}
-
-fn last(text: &[u8]) -> u8
-    ensures { result ≡ or_end (slice_get (reverse text.now) 0) }
-{
-    or_end(text.last())
 }
 
 // The last character that belongs to no identifier.
@@ -89,5 +84,11 @@ fn or_end(code: Option<&u8>) -> u8
 fn is_apart(code: u8) -> bool
     ensures { result ≡ is_apart code }
 {
-    !(code.is_ascii_alphanumeric() || code == b'.' || code == b'_')
+    !is_identifier_character(code)
+}
+
+pub(crate) fn is_identifier_character(code: u8) -> bool
+    ensures { result ≡ is_identifier_character code }
+{
+    code.is_ascii_alphanumeric() || code == b'.' || code == b'_'
 }

@@ -1,9 +1,9 @@
 //! Why a program is refused, as far as the characters around the place tell.
 ghost use Rattle.std.specs.Prelude.{◌≡◌};
-ghost use Rattle.mon_text.specs.Characters.{is_quote, is_identifier_character};
+ghost use Rattle.mon_text.specs.Characters.{is_quote};
 ghost use Rattle.program_advice.specs.Causes.{cause_of, blank_cause, unexpected_cause, sign_cause, variable_cause, is_comment, is_behind_subject, ends_element};
 
-use crate::around::Around;
+use crate::around::{Around, is_identifier_character};
 use sno_cards::SyntaxCode;
 
 /// Why a program is refused.
@@ -155,27 +155,17 @@ pub fn cause_of(code: SyntaxCode, around: Around) -> Cause
 fn blank_cause(around: Around) -> Cause
     ensures { result ≡ blank_cause around }
 {
-    if around.here == b'.'
-        && around.before.is_ascii_digit()
-        && !around.behind.is_ascii_alphabetic()
-    {
-        Cause::Real
-    } else if is_quote(around.here) && around.before == around.here {
-        Cause::QuoteInLiteral
-    } else if around.here == b'(' && around.sign == b'*' {
-        Cause::LaterThanVariables
-    } else if matches!(around.here, b'?' | b'&' | b'@' | b'~') {
-        Cause::NotBinary
-    } else if around.here == b'=' {
-        Cause::TightEquals
-    } else if around.here == b':' {
-        Cause::TightColon
-    } else if around.here == b'<' && around.behind == b' ' {
-        Cause::Comparison
-    } else if is_behind_subject(around) {
-        Cause::SubjectOfOne
-    } else {
-        Cause::OtherBlanks
+    let is_real = around.before.is_ascii_digit() && !around.behind.is_ascii_alphabetic();
+    match around.here {
+        b'.' if is_real => Cause::Real,
+        _ if is_quote(around.here) && around.before == around.here => Cause::QuoteInLiteral,
+        b'(' if around.sign == b'*' => Cause::LaterThanVariables,
+        b'?' | b'&' | b'@' | b'~' => Cause::NotBinary,
+        b'=' => Cause::TightEquals,
+        b':' => Cause::TightColon,
+        b'<' if around.behind == b' ' => Cause::Comparison,
+        _ if is_behind_subject(around) => Cause::SubjectOfOne,
+        _ => Cause::OtherBlanks,
     }
 }
 
@@ -197,30 +187,18 @@ fn ends_element(code: u8) -> bool
     is_identifier_character(code) || is_quote(code) || code == b')' || code == b'>'
 }
 
-fn is_identifier_character(code: u8) -> bool
-    ensures { result ≡ is_identifier_character code }
-{
-    code.is_ascii_alphanumeric() || code == b'.' || code == b'_'
-}
-
 // Where something stands that fits with no blanks.
 fn unexpected_cause(around: Around) -> Cause
     ensures { result ≡ unexpected_cause around }
 {
-    if is_comment(around) {
-        Cause::Comment
-    } else if around.here == b'(' && around.sign == b'*' {
-        Cause::LaterThanVariables
-    } else if around.here == b'<' && around.before == b':' {
-        Cause::CodeGoto
-    } else if around.here == b'<' && matches!(around.before, b'>' | b')') {
-        Cause::ItemOfValue
-    } else if around.here == b'>' && around.before == b'<' {
-        Cause::NoKey
-    } else if matches!(around.here, b's' | b'f') && around.behind == b'(' {
-        Cause::SmallOutcome
-    } else {
-        sign_cause(around)
+    match around.here {
+        _ if is_comment(around) => Cause::Comment,
+        b'(' if around.sign == b'*' => Cause::LaterThanVariables,
+        b'<' if around.before == b':' => Cause::CodeGoto,
+        b'<' if matches!(around.before, b'>' | b')') => Cause::ItemOfValue,
+        b'>' if around.before == b'<' => Cause::NoKey,
+        b's' | b'f' if around.behind == b'(' => Cause::SmallOutcome,
+        _ => sign_cause(around),
     }
 }
 
@@ -248,14 +226,11 @@ fn sign_cause(around: Around) -> Cause
 fn variable_cause(around: Around) -> Cause
     ensures { result ≡ variable_cause around }
 {
-    if around.here.is_ascii_digit() && around.before == b'.' {
-        Cause::Real
-    } else if around.follows == b'(' {
-        Cause::CallAssigned
-    } else if around.follows == b'<' {
-        Cause::ItemNamed
-    } else {
-        Cause::VariableNeeded
+    match around.follows {
+        _ if around.here.is_ascii_digit() && around.before == b'.' => Cause::Real,
+        b'(' => Cause::CallAssigned,
+        b'<' => Cause::ItemNamed,
+        _ => Cause::VariableNeeded,
     }
 }
 

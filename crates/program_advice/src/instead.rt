@@ -116,28 +116,18 @@ impl Instead {
 pub fn instead_of_function(name: &[u8]) -> Option<Instead>
     ensures { result ≡ instead_of_function name.now }
 {
-    if is_among(name, b"ARRAY COPY ITEM PROTOTYPE") {
-        Some(Instead::Table)
-    } else if is_among(name, b"RSORT SORT") {
-        Some(Instead::Sorting)
-    } else if is_among(name, b"DATA FIELD") {
-        Some(Instead::Fields)
-    } else if is_among(name, b"APPLY ARG LOCAL OPSYN FUNCTION LABEL") {
-        Some(Instead::ComputedGoto)
-    } else if is_among(name, b"CODE EVAL") {
-        Some(Instead::OwnFunction)
-    } else if is_among(name, b"CONVERT") {
-        Some(Instead::Conversion)
-    } else if is_among(name, b"REMDR") {
-        Some(Instead::Remainder)
-    } else if is_among(name, b"LPAD") {
-        Some(Instead::PaddingBefore)
-    } else if is_among(name, b"RPAD") {
-        Some(Instead::PaddingBehind)
-    } else if is_among(name, b"SUBSTR") {
-        Some(Instead::Part)
-    } else {
-        instead_of_string_function(name)
+    match name {
+        _ if is_among(name, b"ARRAY COPY ITEM PROTOTYPE") => Some(Instead::Table),
+        _ if is_among(name, b"RSORT SORT") => Some(Instead::Sorting),
+        _ if is_among(name, b"DATA FIELD") => Some(Instead::Fields),
+        _ if is_among(name, b"APPLY ARG LOCAL OPSYN FUNCTION LABEL") => Some(Instead::ComputedGoto),
+        _ if is_among(name, b"CODE EVAL") => Some(Instead::OwnFunction),
+        _ if is_among(name, b"CONVERT") => Some(Instead::Conversion),
+        _ if is_among(name, b"REMDR") => Some(Instead::Remainder),
+        _ if is_among(name, b"LPAD") => Some(Instead::PaddingBefore),
+        _ if is_among(name, b"RPAD") => Some(Instead::PaddingBehind),
+        _ if is_among(name, b"SUBSTR") => Some(Instead::Part),
+        _ => instead_of_string_function(name),
     }
 }
 
@@ -145,26 +135,17 @@ pub fn instead_of_function(name: &[u8]) -> Option<Instead>
 fn instead_of_string_function(name: &[u8]) -> Option<Instead>
     ensures { result ≡ instead_of_string_function name.now }
 {
-    if is_among(name, b"REVERSE") {
-        Some(Instead::Reversal)
-    } else if is_among(name, b"BREAKX") {
-        Some(Instead::BreakAgain)
-    } else if is_among(name, b"FENCE") {
-        Some(Instead::LoneFence)
-    } else if is_among(name, b"LEQ") {
-        Some(Instead::Identical)
-    } else if is_among(name, b"LNE") {
-        Some(Instead::Different)
-    } else if is_among(name, b"LLT") {
-        Some(Instead::ComesBefore)
-    } else if is_among(name, b"LGE") {
-        Some(Instead::NotBefore)
-    } else if is_among(name, b"LLE") {
-        Some(Instead::NotAfter)
-    } else if is_among(name, b"VDIFFER") {
-        Some(Instead::ValueIfDifferent)
-    } else {
-        instead_of_library_function(name)
+    match name {
+        _ if is_among(name, b"REVERSE") => Some(Instead::Reversal),
+        _ if is_among(name, b"BREAKX") => Some(Instead::BreakAgain),
+        _ if is_among(name, b"FENCE") => Some(Instead::LoneFence),
+        _ if is_among(name, b"LEQ") => Some(Instead::Identical),
+        _ if is_among(name, b"LNE") => Some(Instead::Different),
+        _ if is_among(name, b"LLT") => Some(Instead::ComesBefore),
+        _ if is_among(name, b"LGE") => Some(Instead::NotBefore),
+        _ if is_among(name, b"LLE") => Some(Instead::NotAfter),
+        _ if is_among(name, b"VDIFFER") => Some(Instead::ValueIfDifferent),
+        _ => instead_of_library_function(name),
     }
 }
 
@@ -172,30 +153,18 @@ fn instead_of_string_function(name: &[u8]) -> Option<Instead>
 fn instead_of_library_function(name: &[u8]) -> Option<Instead>
     ensures { result ≡ instead_of_library_function name.now }
 {
-    if is_among(name, b"CHAR ORD") {
-        Some(Instead::Characters)
-    } else if is_among(name, b"VALUE") {
-        Some(Instead::ByName)
-    } else if is_among(name, b"BACKSPACE SET") {
-        Some(Instead::Rereading)
-    } else if is_among(name, b"DUMP STOPTR TRACE") {
-        Some(Instead::Printing)
-    } else if is_among(name, b"DATE TIME") {
-        Some(Instead::DataRecord)
-    } else if is_among(name, b"ATAN CHOP COS EXP LN SIN SQRT TAN") {
-        Some(Instead::SmallerUnit)
-    } else if is_among(
-        name,
-        b"APPEND BUFFER CLEAR COLLECT DELETE EJECT EXIT FREEZE HOST",
-    ) {
-        Some(Instead::Nothing)
-    } else if is_among(
-        name,
-        b"INSERT IO_FINDUNIT LOAD RENAME SERV_LISTEN SETEXIT SSET THAW UNLOAD",
-    ) {
-        Some(Instead::Nothing)
-    } else {
-        None
+    let some = b"APPEND BUFFER CLEAR COLLECT DELETE EJECT EXIT FREEZE HOST";
+    let others = b"INSERT IO_FINDUNIT LOAD RENAME SERV_LISTEN SETEXIT SSET THAW UNLOAD";
+    match name {
+        _ if is_among(name, b"CHAR ORD") => Some(Instead::Characters),
+        _ if is_among(name, b"VALUE") => Some(Instead::ByName),
+        _ if is_among(name, b"BACKSPACE SET") => Some(Instead::Rereading),
+        _ if is_among(name, b"DUMP STOPTR TRACE") => Some(Instead::Printing),
+        _ if is_among(name, b"DATE TIME") => Some(Instead::DataRecord),
+        _ if is_among(name, b"ATAN CHOP COS EXP LN SIN SQRT TAN") => Some(Instead::SmallerUnit),
+        _ if is_among(name, some) => Some(Instead::Nothing),
+        _ if is_among(name, others) => Some(Instead::Nothing),
+        _ => None,
     }
 }
 
@@ -203,24 +172,18 @@ fn instead_of_library_function(name: &[u8]) -> Option<Instead>
 pub fn instead_of_keyword(name: &[u8]) -> Option<Instead>
     ensures { result ≡ instead_of_keyword name.now }
 {
-    if is_among(name, b"ABORT ARB BAL FAIL FENCE REM SUCCEED") {
-        Some(Instead::PatternVariable)
-    } else if is_among(name, b"ALPHABET DIGITS LCASE UCASE") {
-        Some(Instead::Characters)
-    } else if is_among(name, b"INPUT OUTPUT") {
-        Some(Instead::Detaching)
-    } else if is_among(
-        name,
-        b"ABEND CASE CODE COMPARE DUMP ERRLIMIT ERRTEXT ERRTYPE FATALLIMIT FILE FTRACE GTRACE",
-    ) {
-        Some(Instead::Nothing)
-    } else if is_among(
-        name,
-        b"LASTFILE LASTLINE LASTNO LINE MAXINT PARM PI PROFILE RTNTYPE STEXEC STFCOUNT TRACE",
-    ) {
-        Some(Instead::Nothing)
-    } else {
-        None
+    let patterns = b"ABORT ARB BAL FAIL FENCE REM SUCCEED";
+    let some =
+        b"ABEND CASE CODE COMPARE DUMP ERRLIMIT ERRTEXT ERRTYPE FATALLIMIT FILE FTRACE GTRACE";
+    let others =
+        b"LASTFILE LASTLINE LASTNO LINE MAXINT PARM PI PROFILE RTNTYPE STEXEC STFCOUNT TRACE";
+    match name {
+        _ if is_among(name, patterns) => Some(Instead::PatternVariable),
+        _ if is_among(name, b"ALPHABET DIGITS LCASE UCASE") => Some(Instead::Characters),
+        _ if is_among(name, b"INPUT OUTPUT") => Some(Instead::Detaching),
+        _ if is_among(name, some) => Some(Instead::Nothing),
+        _ if is_among(name, others) => Some(Instead::Nothing),
+        _ => None,
     }
 }
 
@@ -228,14 +191,11 @@ pub fn instead_of_keyword(name: &[u8]) -> Option<Instead>
 pub fn instead_of_label(name: &[u8]) -> Option<Instead>
     ensures { result ≡ instead_of_label name.now }
 {
-    if is_among(name, b"NRETURN") {
-        Some(Instead::ReturnedName)
-    } else if is_among(name, b"END RETURN FRETURN") {
-        Some(Instead::Capitals)
-    } else if is_among(name, b"ABORT CONTINUE SCONTINUE") {
-        Some(Instead::Nothing)
-    } else {
-        None
+    match name {
+        _ if is_among(name, b"NRETURN") => Some(Instead::ReturnedName),
+        _ if is_among(name, b"END RETURN FRETURN") => Some(Instead::Capitals),
+        _ if is_among(name, b"ABORT CONTINUE SCONTINUE") => Some(Instead::Nothing),
+        _ => None,
     }
 }
 

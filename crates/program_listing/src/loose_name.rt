@@ -2,7 +2,7 @@
 //! nobody defines, keywords and variables that other systems have, names of the language in small letters, items where there is no
 //! table, and functions that look called and are not; and names that the language has, used so that the statement fails.
 
-use crate::misuse::{Misuse, literal_at, misuse_at};
+use crate::misuse::{literal_at, misuse_at};
 use crate::rows::place_at;
 use crate::usage::{Usage, defined_by, is_named, name_at};
 use mon_text::{Line, Stop};
@@ -60,6 +60,9 @@ pub fn loose_names(alloc: Global, cards: &ProgramCards) -> Result<Vec<LooseName>
         has_tables: false,
         untabled: Labels::new(alloc, Seed::fixed()),
     };
+    for (index, text) in cards.statements().iter().enumerate() {
+        known.note_statement(text, index)?;
+    }
     known.loose_in(cards.statements())
 }
 
@@ -76,23 +79,6 @@ struct Known {
 }
 
 impl Known {
-    // Notes what the statements of a program give a meaning, and then collects the names in them that lead nowhere.
-    fn loose_in(&mut self, texts: &[StatementText]) -> Result<Vec<LooseName>, AllocError> {
-        self.note_statements(texts)?;
-        let mut loose = Vec::new(self.alloc);
-        for (index, text) in texts.iter().enumerate() {
-            self.put_loose(text, index, &mut loose)?;
-        }
-        Ok(loose)
-    }
-
-    fn note_statements(&mut self, texts: &[StatementText]) -> Result<(), AllocError> {
-        for (index, text) in texts.iter().enumerate() {
-            self.note_statement(text, index)?;
-        }
-        Ok(())
-    }
-
     // Notes the label of a statement, whether it calls TABLE, and the functions that it gives to DEFINE as literals.
     fn note_statement(&mut self, text: &StatementText, index: usize) -> Result<(), AllocError> {
         self.labels
@@ -118,108 +104,105 @@ impl Known {
         if name.as_bytes() == b"TABLE".as_slice() {
             self.has_tables = true;
         } else if name.as_bytes() == b"DEFINE".as_slice() {
-            if let Some(function) = defined_by(self.alloc, tokens, at)? {
+            if let Some(prototype) = literal_at(tokens, at.saturating_add(2)) {
+                let function = defined_by(self.alloc, prototype.as_bytes())?;
                 self.functions.insert(self.alloc, &function, index)?;
             }
         }
         Ok(())
     }
 
-    // Puts the names in the statement at an index that lead nowhere last.
+    // The names in the statements that lead nowhere.
+    fn loose_in(&mut self, texts: &[StatementText]) -> Result<Vec<LooseName>, AllocError> {
+        let mut loose = Vec::new(self.alloc);
+        for text in texts {
+            self.put_loose(text, &mut loose)?;
+        }
+        Ok(loose)
+    }
+
+    // Puts the names in a statement that lead nowhere last.
     fn put_loose(
         &mut self,
         text: &StatementText,
-        index: usize,
         loose: &mut Vec<LooseName>,
     ) -> Result<(), AllocError> {
-        let Some(read) = tokens_of(self.alloc, text)? else {
-            return Ok(());
-        };
-        for (at, offset) in read.offsets().iter().enumerate() {
-            if let Some((word, usage)) = name_at(read.tokens(), at) {
-                let name = word.line(self.alloc)?;
-                if let Some(kind) = self.loose_kind(name.as_bytes(), usage)? {
-                    self.note_told(kind, name.as_bytes(), index)?;
-                    let place = place_at(text, *offset);
-                    loose.push(LooseName { kind, name, place })?;
-                } else if self.functions.find(name.as_bytes()).is_none() {
-                    if let Some(misuse) = misuse_at(read.tokens(), at, name.as_bytes(), usage) {
-                        loose.push(misused(self.alloc, text, &read, at, name, misuse)?)?;
-                    }
+        if let Some(read) = tokens_of(self.alloc, text)? {
+            for at in 0..read.tokens().len() {
+                if let Some(name) = self.loose_at(text, &read, at)? {
+                    loose.push(name)?;
                 }
             }
         }
         Ok(())
     }
 
-    // Notes that it is told of a name, where that is told once.
-    fn note_told(&mut self, kind: LooseKind, name: &[u8], index: usize) -> Result<(), AllocError> {
+    // The name that the token at an index is, if it leads nowhere, or is one of the language and misused.
+    fn loose_at(
+        &mut self,
+        text: &StatementText,
+        read: &Tokens<'_>,
+        at: usize,
+    ) -> Result<Option<LooseName>, AllocError> {
+        let tokens = read.tokens();
+        let Some((word, usage)) = name_at(tokens, at) else {
+            return Ok(None);
+        };
+        let name = word.line(self.alloc)?;
+        let found = match self.loose_kind(name.as_bytes(), usage)? {
+            None if self.functions.find(name.as_bytes()).is_none() => {
+                misuse_at(tokens, at, name.as_bytes(), usage)
+            }
+            None => None,
+            Some(kind) => Some((kind, at)),
+        };
+        let Some((kind, index)) = found else {
+            return Ok(None);
+        };
         if matches!(kind, LooseKind::NoTable) {
-            self.untabled.insert(self.alloc, name, index)?;
+            self.untabled.insert(self.alloc, name.as_bytes(), at)?;
         }
-        Ok(())
+        let name = match (kind, literal_at(tokens, index)) {
+            (LooseKind::File, Some(file)) => file.copy(self.alloc)?,
+            _ => name,
+        };
+        let offset = read.offsets().get(index).copied().unwrap_or(usize::MAX);
+        let place = place_at(text, offset);
+        Ok(Some(LooseName { kind, name, place }))
     }
 
-    // How a name that is used so leads nowhere, if it does.
+    // How a name that is used so leads nowhere, if it means nothing of what the language or the program says.
     fn loose_kind(&self, name: &[u8], usage: Usage) -> Result<Option<LooseKind>, AllocError> {
-        if self.is_known(name, usage) {
+        let is_function = is_named(name, Usage::Call) || self.functions.find(name).is_some();
+        let (kind, is_known) = match usage {
+            Usage::Goto => {
+                let is_kept = matches!(name, b"END" | b"RETURN" | b"FRETURN");
+                (
+                    LooseKind::Label,
+                    is_kept || self.labels.find(name).is_some(),
+                )
+            }
+            Usage::Call => (LooseKind::Function, is_function),
+            Usage::Later => (LooseKind::NotCalled, !is_function),
+            Usage::Item => {
+                let is_told = self.untabled.find(name).is_some();
+                (LooseKind::NoTable, self.has_tables || is_told)
+            }
+            Usage::Keyword => (LooseKind::Keyword, is_named(name, usage)),
+            Usage::Variable => (LooseKind::Variable, is_named(name, usage)),
+        };
+        if is_known {
             return Ok(None);
         }
         let capitals = name.to_ascii_uppercase(self.alloc)?;
         if is_named(&capitals, usage) {
             return Ok(Some(LooseKind::SmallLetters));
         }
-        match usage {
-            Usage::Goto => Ok(Some(LooseKind::Label)),
-            Usage::Call => Ok(Some(LooseKind::Function)),
-            Usage::Item => Ok(Some(LooseKind::NoTable)),
-            Usage::Keyword => Ok(Some(LooseKind::Keyword)),
-            Usage::Variable if instead_of_variable(name).is_some() => Ok(Some(LooseKind::Variable)),
-            Usage::Variable => Ok(None),
-            Usage::Later => Ok(Some(LooseKind::NotCalled)),
+        match kind {
+            LooseKind::Variable if instead_of_variable(name).is_none() => Ok(None),
+            _ => Ok(Some(kind)),
         }
     }
-
-    // Whether a name that is used so means what the language or the program says of it.
-    fn is_known(&self, name: &[u8], usage: Usage) -> bool {
-        match usage {
-            Usage::Goto => {
-                matches!(name, b"END" | b"RETURN" | b"FRETURN") || self.labels.find(name).is_some()
-            }
-            Usage::Call => self.is_function(name),
-            Usage::Later => !self.is_function(name),
-            Usage::Item => self.has_tables || self.untabled.find(name).is_some(),
-            Usage::Keyword | Usage::Variable => is_named(name, usage),
-        }
-    }
-
-    fn is_function(&self, name: &[u8]) -> bool {
-        is_named(name, Usage::Call) || self.functions.find(name).is_some()
-    }
-}
-
-// A name of the language, at an index, that is misused so: what is told of it, and where.
-fn misused(
-    alloc: Global,
-    text: &StatementText,
-    read: &Tokens<'_>,
-    at: usize,
-    name: Line,
-    misuse: Misuse,
-) -> Result<LooseName, AllocError> {
-    let (kind, index) = match misuse {
-        Misuse::File(index) => (LooseKind::File, index),
-        Misuse::Later(index) => (LooseKind::LaterArgument, index),
-        Misuse::Statements => (LooseKind::Statements, at),
-        Misuse::Characters => (LooseKind::Characters, at),
-    };
-    let name = match (kind, literal_at(read.tokens(), index)) {
-        (LooseKind::File, Some(file)) => file.copy(alloc)?,
-        _ => name,
-    };
-    let offset = read.offsets().get(index).copied().unwrap_or(usize::MAX);
-    let place = place_at(text, offset);
-    Ok(LooseName { kind, name, place })
 }
 
 // The tokens of a statement, where they can be read.

@@ -1,36 +1,25 @@
 //! What is written out in a statement, and lets it fail whenever it runs: names of files where there are none, arguments that are
 //! evaluated too late, numbers that a keyword does not take.
 
+use crate::loose_name::LooseKind;
 use crate::usage::Usage;
 use mon_text::Line;
 use sno_declarations::read_format;
 use sno_lexer::{Constant, Mark, Part, Token, TokenKind};
 use sno_store::keyword::MOST_CHARACTERS;
 
-/// How something is misused.
-#[derive(Clone, Copy)]
-pub(crate) enum Misuse {
-    /// A literal at this index is a file's name, as it seems.
-    File(usize),
-    /// An argument at this index is evaluated later than the call.
-    Later(usize),
-    /// A number of statements that there is not.
-    Statements,
-    /// A number of characters that there is not.
-    Characters,
-}
-
-/// How a name of the language, which the token at an index is, is misused there, if it is.
+/// How a name of the language, which the token at an index is, is misused there, if it is; and the index of the token that it
+/// is told of.
 pub(crate) fn misuse_at(
     tokens: &[Token<'_>],
     at: usize,
     name: &[u8],
     usage: Usage,
-) -> Option<Misuse> {
+) -> Option<(LooseKind, usize)> {
     match usage {
         Usage::Call if matches!(name, b"INPUT" | b"OUTPUT") => file_at(tokens, at, name),
         Usage::Call if needs_value(name) => later_at(tokens, at),
-        Usage::Keyword => number_at(tokens, at, name),
+        Usage::Keyword => Some((misused_number(tokens, at, name)?, at)),
         _ => None,
     }
 }
@@ -44,27 +33,26 @@ pub(crate) fn literal_at<'b>(tokens: &'b [Token<'_>], index: usize) -> Option<&'
 }
 
 // A file's name among the last arguments of INPUT or OUTPUT.
-fn file_at(tokens: &[Token<'_>], at: usize, name: &[u8]) -> Option<Misuse> {
+fn file_at(tokens: &[Token<'_>], at: usize, name: &[u8]) -> Option<(LooseKind, usize)> {
     if let Some(third) = argument_at(tokens, at, 2) {
         if let Some(text) = literal_at(tokens, third) {
             if !is_length(name, text.as_bytes()) {
-                return Some(Misuse::File(third));
+                return Some((LooseKind::File, third));
             }
         }
     }
     let fourth = argument_at(tokens, at, 3)?;
     literal_at(tokens, fourth)?;
-    Some(Misuse::File(fourth))
+    Some((LooseKind::File, fourth))
 }
 
 // Whether a third argument says how long records are, or nothing.
 fn is_length(name: &[u8], text: &[u8]) -> bool {
-    text.is_empty()
-        || if name == b"INPUT".as_slice() {
-            text.iter().all(|code| code.is_ascii_digit())
-        } else {
-            read_format(text).is_some()
-        }
+    if name == b"INPUT".as_slice() {
+        text.iter().all(|code| code.is_ascii_digit())
+    } else {
+        text.is_empty() || read_format(text).is_some()
+    }
 }
 
 // Whether a function makes a pattern of a number or of characters.
@@ -77,52 +65,33 @@ fn needs_value(name: &[u8]) -> bool {
 }
 
 // The first argument of a call, where it is `*V` alone.
-fn later_at(tokens: &[Token<'_>], at: usize) -> Option<Misuse> {
+fn later_at(tokens: &[Token<'_>], at: usize) -> Option<(LooseKind, usize)> {
     let first = argument_at(tokens, at, 0)?;
     let star = tokens.get(first)?;
+    let behind = tokens.get(first.saturating_add(2))?;
     let is_star = matches!(&star.kind, TokenKind::Mark(Mark::Star)) && !star.blank_after;
-    if is_star && ends_argument(tokens, first.saturating_add(2)) {
-        Some(Misuse::Later(first))
+    if is_star && matches!(&behind.kind, TokenKind::Comma | TokenKind::Close) {
+        Some((LooseKind::LaterArgument, first))
     } else {
         None
     }
 }
 
-// A number out of the range of the keyword whose name is at an index.
-fn number_at(tokens: &[Token<'_>], at: usize, name: &[u8]) -> Option<Misuse> {
-    if !is_equals(tokens.get(at.saturating_add(1))?) {
+// How a keyword, whose name is at an index, is set to a number out of its range, if it is.
+fn misused_number(tokens: &[Token<'_>], at: usize, name: &[u8]) -> Option<LooseKind> {
+    let TokenKind::Part(Part::Equals) = &tokens.get(at.saturating_add(1))?.kind else {
         return None;
-    }
+    };
     let behind = at.saturating_add(2);
-    if is_minus(tokens.get(behind)?) {
-        let number = integer_at(tokens, behind.saturating_add(1))?;
-        misused_number(name, number, number > 0)
-    } else {
-        misused_number(name, integer_at(tokens, behind)?, false)
-    }
-}
-
-fn is_equals(token: &Token<'_>) -> bool {
-    matches!(&token.kind, TokenKind::Part(Part::Equals))
-}
-
-fn is_minus(token: &Token<'_>) -> bool {
-    matches!(&token.kind, TokenKind::Mark(Mark::Minus))
-}
-
-// The number that the token at an index is, if it is one.
-fn integer_at(tokens: &[Token<'_>], index: usize) -> Option<i64> {
-    match &tokens.get(index)?.kind {
-        TokenKind::Constant(Constant::Integer(number)) => Some(*number),
-        _ => None,
-    }
-}
-
-// How a keyword is misused that is set to a number, or to what is less than 0.
-fn misused_number(name: &[u8], number: i64, is_less: bool) -> Option<Misuse> {
+    let is_minus = matches!(&tokens.get(behind)?.kind, TokenKind::Mark(Mark::Minus));
+    let index = behind.saturating_add(if is_minus { 1 } else { 0 });
+    let TokenKind::Constant(Constant::Integer(number)) = &tokens.get(index)?.kind else {
+        return None;
+    };
+    let is_less = is_minus && *number > 0;
     match name {
-        b"STLIMIT" if is_less => Some(Misuse::Statements),
-        b"MAXLNGTH" if is_less || number > MOST_CHARACTERS as i64 => Some(Misuse::Characters),
+        b"STLIMIT" if is_less => Some(LooseKind::Statements),
+        b"MAXLNGTH" if is_less || *number > MOST_CHARACTERS as i64 => Some(LooseKind::Characters),
         _ => None,
     }
 }
@@ -146,12 +115,4 @@ fn argument_at(tokens: &[Token<'_>], at: usize, number: usize) -> Option<usize> 
         }
     }
     None
-}
-
-// Whether an argument ends before an index.
-fn ends_argument(tokens: &[Token<'_>], index: usize) -> bool {
-    match tokens.get(index) {
-        Some(token) => matches!(&token.kind, TokenKind::Comma | TokenKind::Close),
-        None => false,
-    }
 }

@@ -91,10 +91,7 @@ pub fn put_program(
 {
     match statements(alloc, lines) {
         Ok(cards) => put_cards(alloc, &cards, found),
-        Err(Stop::Refused(error)) => {
-            found.push(LoadError::Syntax(error))?;
-            Ok(())
-        }
+        Err(Stop::Refused(error)) => put_refusal(Some(error), found),
         Err(Stop::Memory) => Err(AllocError),
     }
 }

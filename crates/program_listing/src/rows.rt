@@ -2,8 +2,8 @@
 
 use crate::source::Source;
 use mon_text::{Line, put_number};
-use sno_syntax::{Place, ProgramCards, StatementText};
-use std::alloc::{AllocError, Global};
+use sno_syntax::{Place, StatementText};
+use std::alloc::AllocError;
 
 /// No place at all: cards and columns are counted from 1.
 const NOWHERE: Place = Place { card: 0, column: 0 };
@@ -23,7 +23,6 @@ pub(crate) fn place_at(text: &StatementText, index: usize) -> Place {
 ///
 /// Where a growth was refused; some rows may have been appended then.
 pub fn put_rows(
-    alloc: Global,
     first_line: u64,
     lines: &[Line],
     source: &Source,
@@ -33,48 +32,37 @@ pub fn put_rows(
     let Some(cards) = &source.cards else {
         return put_cards(first_line, lines, &[], out);
     };
-    let starts = starts_of(alloc, cards)?;
+    let texts = cards.statements();
     let end = cards.data_from();
     if end > lines.len() {
-        return put_cards(first_line, lines, &starts, out);
+        return put_cards(first_line, lines, texts, out);
     }
     let (program, data) = lines.split_at(end);
-    put_cards(first_line, program, &starts, out)?;
+    put_cards(first_line, program, texts, out)?;
     out.extend_from_slice(b"DATA ")?;
     put_number(data.len() as u64, out)?;
     out.extend_from_slice(b"\n")
 }
 
-// The card on which each statement begins, in order.
-fn starts_of(alloc: Global, cards: &ProgramCards) -> Result<Vec<u64>, AllocError> {
-    let mut starts = Vec::new(alloc);
-    for text in cards.statements() {
-        starts.push(begin_of(text).card)?;
-    }
-    Ok(starts)
-}
-
 /// Where a text begins that isn't blank.
 pub(crate) fn begin_of(text: &StatementText) -> Place {
-    for (index, byte) in text.as_bytes().iter().enumerate() {
-        if *byte != b' ' {
-            return place_at(text, index);
-        }
+    match text.as_bytes().iter().position(|byte| *byte != b' ') {
+        Some(index) => place_at(text, index),
+        None => NOWHERE,
     }
-    NOWHERE
 }
 
-// Appends a row for each card. These are the cards on which the statements begin.
+// Appends a row for each card. These are the statements that begin on them.
 fn put_cards(
     first_line: u64,
     lines: &[Line],
-    starts: &[u64],
+    texts: &[StatementText],
     out: &mut Vec<u8>,
 ) -> Result<(), AllocError> {
     let mut from = 0;
     for (index, line) in lines.iter().enumerate() {
         let card = index as u64 + 1;
-        let past = past_card(starts, from, card);
+        let past = past_card(texts, from, card);
         put_padded(first_line.saturating_add(index as u64), 7, out)?;
         put_padded(card, 6, out)?;
         put_statements(from as u64, past as u64, out)?;
@@ -87,13 +75,13 @@ fn put_cards(
 }
 
 // The index behind the statements from an index on that begin on this card.
-fn past_card(starts: &[u64], from: usize, card: u64) -> usize {
-    for index in from..starts.len() {
-        if starts[index] != card {
+fn past_card(texts: &[StatementText], from: usize, card: u64) -> usize {
+    for index in from..texts.len() {
+        if begin_of(&texts[index]).card != card {
             return index;
         }
     }
-    starts.len()
+    texts.len()
 }
 
 // Appends which statements begin on a card, by the indices before and behind them.

@@ -4,7 +4,7 @@ use crate::program::put_cards;
 use crate::rows::begin_of;
 use load_refusal::LoadError;
 use mon_text::{Line, Stop, read_line};
-use sno_syntax::{Place, ProgramCards, SyntaxCode, SyntaxError, statements};
+use sno_syntax::{Place, ProgramCards, StatementText, SyntaxCode, SyntaxError, statements};
 use std::alloc::{AllocError, Global};
 
 /// How many cards of a program are looked past at the most.
@@ -25,23 +25,24 @@ impl Source {
     /// there is none, as from the END line on.
     pub fn statement_at(&self, place: Place) -> u64 {
         match &self.cards {
-            Some(cards) if place.card < cards.data_from() as u64 => begun_at(cards, place),
+            Some(cards) if place.card < cards.data_from() as u64 => begun_at(
+                cards.statements(),
+                place,
+            ),
             _ => 0,
         }
     }
 }
 
 // How many statements have begun at a place.
-fn begun_at(cards: &ProgramCards, place: Place) -> u64 {
-    let mut begun: u64 = 0;
-    for text in cards.statements() {
+fn begun_at(texts: &[StatementText], place: Place) -> u64 {
+    for (begun, text) in texts.iter().enumerate() {
         let begin = begin_of(text);
         if begin.card > place.card || (begin.card == place.card && begin.column > place.column) {
-            return begun;
+            return begun as u64;
         }
-        begun = begun.saturating_add(1);
     }
-    begun
+    texts.len() as u64
 }
 
 /// Reads what can be read of a program.
@@ -96,22 +97,20 @@ fn copied(alloc: Global, lines: &[Line]) -> Result<Vec<Line>, AllocError> {
 
 // Makes a comment of a card that is refused, or puts an END line behind all, where it is that which is missing.
 fn mend(alloc: Global, lines: &mut Vec<Line>, refusal: SyntaxError) -> Result<(), AllocError> {
-    if matches!(refusal.code, SyntaxCode::NoEndLine) {
-        let end = line_of(alloc, b"END")?;
-        lines.push(end)?;
-        return Ok(());
-    }
-    let comment = line_of(alloc, b"*")?;
+    let lacks_end = matches!(refusal.code, SyntaxCode::NoEndLine);
+    let text = if lacks_end {
+        b"END".as_slice()
+    } else {
+        b"*".as_slice()
+    };
+    let Ok(card) = read_line(alloc, text, text.len()) else {
+        return Err(AllocError);
+    };
     let index = refusal.place.card.saturating_sub(1) as usize;
-    if index < lines.len() {
-        lines[index] = comment;
+    if lacks_end {
+        lines.push(card)?;
+    } else if index < lines.len() {
+        lines[index] = card;
     }
     Ok(())
-}
-
-fn line_of(alloc: Global, text: &[u8]) -> Result<Line, AllocError> {
-    match read_line(alloc, text, text.len()) {
-        Ok(line) => Ok(line),
-        Err(_) => Err(AllocError),
-    }
 }

@@ -1,6 +1,6 @@
 //! How names are used, and which of them the language has.
 
-use sno_lexer::{Constant, Mark, Part, Token, TokenKind, Word};
+use sno_lexer::{Mark, Part, Token, TokenKind, Word};
 use sno_store::{Keyword, StateFunction};
 use sno_value::primitive_named;
 use std::alloc::{AllocError, Global};
@@ -46,12 +46,12 @@ fn usage_at(tokens: &[Token<'_>], index: usize) -> Usage {
         }
     }
     match tokens.get(index.saturating_sub(1)) {
-        Some(mark) => match &mark.kind {
-            TokenKind::Mark(Mark::Ampersand) if !mark.blank_after => Usage::Keyword,
-            TokenKind::Mark(Mark::Star) if opens && !mark.blank_after => Usage::Later,
+        Some(mark) if !mark.blank_after => match &mark.kind {
+            TokenKind::Mark(Mark::Ampersand) => Usage::Keyword,
+            TokenKind::Mark(Mark::Star) if opens => Usage::Later,
             _ => Usage::Variable,
         },
-        None => Usage::Variable,
+        _ => Usage::Variable,
     }
 }
 
@@ -65,27 +65,8 @@ pub(crate) fn is_named(name: &[u8], usage: Usage) -> bool {
     }
 }
 
-/// The name of the function that a literal defines: what stands before its first parenthesis, without blanks. Nothing, where
-/// the first argument of the call at an index is no literal.
-pub(crate) fn defined_by(
-    alloc: Global,
-    tokens: &[Token<'_>],
-    index: usize,
-) -> Result<Option<Vec<u8>>, AllocError> {
-    match tokens.get(index.saturating_add(2)) {
-        Some(first) => match &first.kind {
-            TokenKind::Constant(Constant::Literal(text)) => {
-                let name = name_in(alloc, text.as_bytes())?;
-                Ok(Some(name))
-            }
-            _ => Ok(None),
-        },
-        None => Ok(None),
-    }
-}
-
-// What stands before the first parenthesis, without blanks.
-fn name_in(alloc: Global, prototype: &[u8]) -> Result<Vec<u8>, AllocError> {
+/// The name of the function that this prototype, given to DEFINE, defines: what stands before its first parenthesis, without blanks.
+pub(crate) fn defined_by(alloc: Global, prototype: &[u8]) -> Result<Vec<u8>, AllocError> {
     let mut name = Vec::new(alloc);
     for code in prototype {
         if *code == b'(' {
