@@ -1,5 +1,5 @@
-//! Tests of all layers, in a crate above them, so that no other is proved again for its tests. What a deck or a program brings about is
-//! a case of the programs `rows` and `programs`.
+//! Tests of all layers but a site's, in a crate above them, so that no other is proved again for its tests. What a deck or a program
+//! brings about is a case of the programs `rows` and `programs`; a site's crates have their tests in `site_tests`.
 #![tactic(auto)]
 
 #[cfg(test)]
@@ -7,13 +7,9 @@ mod access;
 #[cfg(test)]
 mod acl;
 #[cfg(test)]
-mod bounds;
-#[cfg(test)]
 mod calls;
 #[cfg(test)]
 mod catalogue;
-#[cfg(test)]
-mod checkpoints;
 #[cfg(test)]
 mod device;
 #[cfg(test)]
@@ -22,8 +18,6 @@ mod errors;
 mod feeding;
 #[cfg(test)]
 mod guard;
-#[cfg(test)]
-mod life;
 #[cfg(test)]
 mod matching;
 #[cfg(test)]
