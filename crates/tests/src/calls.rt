@@ -1,5 +1,5 @@
 //! Public calls that no deck makes: jobs of a monitor that are given turns one by one, and in an order.
-use crate::access::is_known;
+use crate::access::{ANNA, LISA, is_known};
 use crate::catalogue::{lines_of, put_text, read};
 use deck_run::NoAudit;
 use mon_access::Accounts;
@@ -7,7 +7,7 @@ use mon_catalogue::Version;
 use mon_monitor::{Monitor, Turned};
 use mon_text::{Stop, read_name};
 use mon_unit::Lines;
-use scheduler::{JobDeck, JobEnd, JobLimits, LoadError, UnitCard, UnitCards, put_printout};
+use scheduler::{JobDeck, JobLimits, LoadError, UnitCard, UnitCards, put_printout};
 use sno_text::Seed;
 use std::alloc::Global;
 
@@ -85,79 +85,54 @@ const SHORT_PRINTOUT: &[u8] = b"JOB 2 lisa\n\
     DENIED STATEMENT 2 WRITE PAYROLL BY mask::\n\
     END NORMAL AFTER 2\n";
 
-fn ties_of(alloc: Global, entered: &Entered) -> Option<UnitCards> {
-    let set = read_name(entered.set).ok()?;
-    let unit = entered.unit;
+/// What is answered where a job is to be loaded.
+type Loaded = Result<u8, Stop<LoadError>>;
+
+fn loaded(alloc: Global, monitor: &mut Monitor, number: u64, job: &Entered) -> Option<Loaded> {
+    let unit = job.unit;
+    let account = read_name(job.account).ok()?;
+    let set = read_name(job.set).ok()?;
+    let lines = lines_of(alloc, job.program)?;
     let mut ties = UnitCards::new(alloc);
     ties.push(UnitCard { unit, set }).ok()?;
-    Some(ties)
-}
-
-fn deck_of(alloc: Global, number: u8, entered: &Entered) -> Option<JobDeck> {
-    let account = read_name(entered.account).ok()?;
-    let lines = lines_of(alloc, entered.program)?;
-    let ties = ties_of(alloc, entered)?;
-    Some(JobDeck {
-        number: number as u64,
+    let deck = JobDeck {
+        number,
         account,
         limits: JobLimits::usual(),
         ties,
         lines: Lines::of(lines),
-    })
+    };
+    Some(monitor.load(alloc, deck))
 }
 
-fn is_loaded(alloc: Global, monitor: &mut Monitor, slot: u8, entered: &Entered) -> bool {
-    match deck_of(alloc, slot, entered) {
-        Some(deck) => matches!(monitor.load(alloc, deck), Ok(number) if number == slot),
-        None => false,
-    }
-}
-
-fn finds_no_slot(alloc: Global, monitor: &mut Monitor, entered: &Entered) -> bool {
-    match deck_of(alloc, 3, entered) {
-        Some(deck) => matches!(
-            monitor.load(alloc, deck),
-            Err(Stop::Refused(LoadError::NoSlot))
-        ),
-        None => false,
-    }
-}
-
-fn accounts_of(alloc: Global) -> Option<Accounts> {
+// A monitor of two slots, of which the first has a job, and the second another.
+fn monitor_of(alloc: Global, first: &Entered, second: &Entered) -> Option<Monitor> {
     let mut accounts = Accounts::new(alloc);
-    if is_known(alloc, &mut accounts, (b"anna", b"admin", b""))
-        && is_known(alloc, &mut accounts, (b"lisa", b"staff", b""))
-    {
-        Some(accounts)
+    let are_known = is_known(alloc, &mut accounts, ANNA) && is_known(alloc, &mut accounts, LISA);
+    let catalogue = read(alloc, Version::One, SETS)?;
+    let mut monitor = Monitor::new(alloc, Seed::fixed(), accounts, catalogue, 2).ok()?;
+    let are_loaded = matches!(loaded(alloc, &mut monitor, 1, first), Some(Ok(1)))
+        && matches!(loaded(alloc, &mut monitor, 2, second), Some(Ok(2)));
+    if are_known && are_loaded {
+        Some(monitor)
     } else {
         None
     }
 }
 
-// A monitor of two slots.
-fn monitor_of(alloc: Global) -> Option<Monitor> {
-    let accounts = accounts_of(alloc)?;
-    let catalogue = read(alloc, Version::One, SETS)?;
-    Monitor::new(alloc, Seed::fixed(), accounts, catalogue, 2).ok()
-}
-
-// Whether the first of the slots takes a job, and the second another.
-fn are_loaded(alloc: Global, monitor: &mut Monitor, first: &Entered, second: &Entered) -> bool {
-    is_loaded(alloc, monitor, 1, first) && is_loaded(alloc, monitor, 2, second)
-}
-
-fn is_printed(alloc: Global, end: &JobEnd, printout: &[u8]) -> bool {
-    let mut out = Vec::new(alloc);
-    put_printout(end, &mut out).is_ok() && out.as_slice() == printout
-}
-
-fn goes_on(alloc: Global, monitor: &mut Monitor, slot: u8) -> bool {
-    matches!(monitor.turn(alloc, slot, &mut NoAudit), Ok(Turned::Goes))
+fn finds_no_slot(alloc: Global, monitor: &mut Monitor) -> bool {
+    matches!(
+        loaded(alloc, monitor, 3, &SHORT),
+        Some(Err(Stop::Refused(LoadError::NoSlot)))
+    )
 }
 
 fn ends(alloc: Global, monitor: &mut Monitor, slot: u8, printout: &[u8]) -> bool {
+    let mut out = Vec::new(alloc);
     match monitor.turn(alloc, slot, &mut NoAudit) {
-        Ok(Turned::Ended(end)) => is_printed(alloc, &end, printout),
+        Ok(Turned::Ended(end)) => {
+            put_printout(&end, &mut out).is_ok() && out.as_slice() == printout
+        }
         _ => false,
     }
 }
@@ -168,10 +143,9 @@ fn is_empty(alloc: Global, monitor: &mut Monitor, slot: u8) -> bool {
 
 // Both slots have a job, until the second is given turns to its end.
 fn empties(alloc: Global, monitor: &mut Monitor) -> bool {
-    are_loaded(alloc, monitor, &LONG, &SHORT)
-        && !monitor.has_room()
-        && finds_no_slot(alloc, monitor, &SHORT)
-        && goes_on(alloc, monitor, 2)
+    !monitor.has_room()
+        && finds_no_slot(alloc, monitor)
+        && matches!(monitor.turn(alloc, 2, &mut NoAudit), Ok(Turned::Goes))
         && ends(alloc, monitor, 2, SHORT_PRINTOUT)
         && is_empty(alloc, monitor, 2)
         && is_empty(alloc, monitor, 3)
@@ -179,7 +153,7 @@ fn empties(alloc: Global, monitor: &mut Monitor) -> bool {
 }
 
 fn turns_to_an_end(alloc: Global) -> bool {
-    match monitor_of(alloc) {
+    match monitor_of(alloc, &LONG, &SHORT) {
         Some(mut monitor) => empties(alloc, &mut monitor),
         None => false,
     }
@@ -191,10 +165,8 @@ fn a_job_is_given_turns_to_its_end(rt: HostRuntime) {
 }
 
 fn is_independence(alloc: Global, first: &Entered, second: &Entered, wanted: bool) -> bool {
-    match monitor_of(alloc) {
-        Some(mut monitor) => {
-            are_loaded(alloc, &mut monitor, first, second) && monitor.independent() == wanted
-        }
+    match monitor_of(alloc, first, second) {
+        Some(monitor) => monitor.independent() == wanted,
         None => false,
     }
 }
@@ -203,28 +175,6 @@ fn is_independence(alloc: Global, first: &Entered, second: &Entered, wanted: boo
 fn jobs_that_tie_one_set_are_not_independent(rt: HostRuntime) {
     assert!(rt; is_independence(rt.alloc(), &LONG, &SHORT, true));
     assert!(rt; is_independence(rt.alloc(), &READER, &WRITER, false));
-}
-
-fn put_ends(ends: &[JobEnd], out: &mut Vec<u8>) -> bool {
-    for end in ends {
-        if put_printout(end, out).is_err() {
-            return false;
-        }
-    }
-    true
-}
-
-// What jobs that are given turns in an order print, and what they leave.
-fn prints(alloc: Global, monitor: &mut Monitor, order: &[u8], output: &[u8]) -> bool {
-    let mut out = Vec::new(alloc);
-    match monitor.turns(alloc, order, &mut NoAudit) {
-        Ok(ends) => {
-            put_ends(&ends, &mut out)
-                && put_text(monitor.catalogue(), &mut out)
-                && out.as_slice() == output
-        }
-        Err(_) => false,
-    }
 }
 
 /// The writer ends first, so that the reader finds no fourth record.
@@ -242,13 +192,23 @@ const SHARED_OUTPUT: &[u8] = b"JOB 2 anna\n\
     user::rwx,group::---,other::---\n\
     Z\n";
 
+// Whether jobs that are given turns in an order print this, with what they leave.
+fn prints(alloc: Global, monitor: &mut Monitor, order: &[u8], output: &[u8]) -> bool {
+    let Ok(ends) = monitor.turns(alloc, order, &mut NoAudit) else {
+        return false;
+    };
+    let mut out = Vec::new(alloc);
+    let mut is_put = true;
+    for end in &ends {
+        is_put = is_put && put_printout(end, &mut out).is_ok();
+    }
+    is_put && put_text(monitor.catalogue(), &mut out) && out.as_slice() == output
+}
+
 // Whether the reader and the writer print this where they are given turns in an order.
 fn takes_turns(alloc: Global, order: &[u8], output: &[u8]) -> bool {
-    match monitor_of(alloc) {
-        Some(mut monitor) => {
-            are_loaded(alloc, &mut monitor, &READER, &WRITER)
-                && prints(alloc, &mut monitor, order, output)
-        }
+    match monitor_of(alloc, &READER, &WRITER) {
+        Some(mut monitor) => prints(alloc, &mut monitor, order, output),
         None => false,
     }
 }

@@ -4,8 +4,13 @@ use mon_device::TextSink;
 use mon_text::{Line, read_line};
 use std::alloc::Global;
 
-/// Lists long and short, records full and empty, and sets enough that the catalogue grows more than once.
-const VERSION_ONE: &str = "$SET A anna admin 6
+/// The words of modes, of the first two data sets and of the others.
+type Modes = (&'static str, &'static str);
+
+// A text of lists long and short, records full and empty, and sets enough that the catalogue grows more than once.
+fn text_of(alloc: Global, (first, others): Modes) -> Option<String> {
+    format!(in alloc;
+        "$SET A anna admin{first} 6
 user::rwx,user:hugo:r--,user:lisa:rw-,group::r--,group:ops:r-x,group:staff:-w-,mask::rw-,other::--x
 one
 
@@ -13,70 +18,25 @@ a record that is longer than those before it, and than those behind it
 $SET
 x
 y
-$SET B lisa staff 0
+$SET B lisa staff{first} 0
 user::rw-,group::---,other::---
-$SET C lisa staff 1
-user::rw-,group::---,other::---
-z
-$SET D hugo ops 0
-user::rw-,group::---,other::---
-$SET E hugo ops 0
-user::rw-,user:lisa:r--,group::---,mask::r--,other::---
-";
-
-/// What is written of it.
-const VERSION_TWO: &str = "$SET A anna admin SEQ 6
-user::rwx,user:hugo:r--,user:lisa:rw-,group::r--,group:ops:r-x,group:staff:-w-,mask::rw-,other::--x
-one
-
-a record that is longer than those before it, and than those behind it
-$SET
-x
-y
-$SET B lisa staff SEQ 0
-user::rw-,group::---,other::---
-$SET C lisa staff SEQ 1
+$SET C lisa staff{others} 1
 user::rw-,group::---,other::---
 z
-$SET D hugo ops SEQ 0
+$SET D hugo ops{others} 0
 user::rw-,group::---,other::---
-$SET E hugo ops SEQ 0
+$SET E hugo ops{others} 0
 user::rw-,user:lisa:r--,group::---,mask::r--,other::---
-";
-
-/// The same with sets of both modes.
-const WITH_MODES: &str = "$SET A anna admin SEQ 6
-user::rwx,user:hugo:r--,user:lisa:rw-,group::r--,group:ops:r-x,group:staff:-w-,mask::rw-,other::--x
-one
-
-a record that is longer than those before it, and than those behind it
-$SET
-x
-y
-$SET B lisa staff SEQ 0
-user::rw-,group::---,other::---
-$SET C lisa staff APPEND 1
-user::rw-,group::---,other::---
-z
-$SET D hugo ops APPEND 0
-user::rw-,group::---,other::---
-$SET E hugo ops APPEND 0
-user::rw-,user:lisa:r--,group::---,mask::r--,other::---
-";
-
-fn push_line(alloc: Global, lines: &mut Vec<Line>, text: &str) -> bool {
-    match read_line(alloc, text.as_bytes(), 200) {
-        Ok(line) => lines.push(line).is_ok(),
-        Err(_) => false,
-    }
+"
+    )
+    .ok()
 }
 
 pub(crate) fn lines_of(alloc: Global, text: &str) -> Option<Vec<Line>> {
     let mut lines = Vec::new(alloc);
     for line in text.lines() {
-        if !push_line(alloc, &mut lines, line) {
-            return None;
-        }
+        let line = read_line(alloc, line.as_bytes(), 200).ok()?;
+        lines.push(line).ok()?;
     }
     Some(lines)
 }
@@ -97,9 +57,13 @@ pub(crate) fn put_text(catalogue: &Catalogue, out: &mut Vec<u8>) -> bool {
     sink.settle().is_ok()
 }
 
-fn is_rewritten(alloc: Global, version: Version, text: &str, written: &str) -> bool {
+// Whether a text with these modes is read, and then written with those.
+fn is_rewritten(alloc: Global, version: Version, modes: Modes, written: Modes) -> bool {
     let mut out = Vec::new(alloc);
-    match read(alloc, version, text) {
+    let (Some(text), Some(written)) = (text_of(alloc, modes), text_of(alloc, written)) else {
+        return false;
+    };
+    match read(alloc, version, text.as_str()) {
         Some(catalogue) => {
             put_text(&catalogue, &mut out) && out.as_slice() == written.as_bytes()
         }
@@ -110,11 +74,11 @@ fn is_rewritten(alloc: Global, version: Version, text: &str, written: &str) -> b
 #[test]
 fn a_text_is_read_and_written(rt: HostRuntime) {
     let texts = [
-        (Version::One, VERSION_ONE, VERSION_TWO),
-        (Version::Two, VERSION_TWO, VERSION_TWO),
-        (Version::Two, WITH_MODES, WITH_MODES),
+        (Version::One, ("", ""), (" SEQ", " SEQ")),
+        (Version::Two, (" SEQ", " SEQ"), (" SEQ", " SEQ")),
+        (Version::Two, (" SEQ", " APPEND"), (" SEQ", " APPEND")),
     ];
-    for (version, text, written) in texts {
-        assert!(rt; is_rewritten(rt.alloc(), version, text, written));
+    for (version, modes, written) in texts {
+        assert!(rt; is_rewritten(rt.alloc(), version, modes, written));
     }
 }

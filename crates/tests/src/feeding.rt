@@ -43,23 +43,18 @@ fn put_lines(ends: (&[u8], &[u8]), line: &[u8], out: &mut Vec<u8>) -> bool {
     is_put && out.extend_from_slice(ends.1).is_ok()
 }
 
-// Whether this is what is printed.
-fn is_text(alloc: Global, printed: &Printed, text: &[u8]) -> bool {
-    let mut out = Vec::new(alloc);
-    let mut sink = TextSink::new(&mut out);
-    printed.print(&mut sink);
-    sink.settle().is_ok() && out.as_slice() == text
-}
-
 // Whether a feed that gets a short deck in one piece prints this.
 fn is_printed_at_once(alloc: Global, deck: &[u8], output: &[u8]) -> bool {
     let Ok(mut printed) = Printed::new(alloc) else {
         return false;
     };
     let mut feed = DeckFeed::new(alloc, Options::new());
-    deck.len() < 1_000
-        && feed.feed(alloc, deck, &mut printed, &mut NoAudit).is_ok()
-        && is_text(alloc, &printed, output)
+    let is_fed = deck.len() < 1_000 && feed.feed(alloc, deck, &mut printed, &mut NoAudit).is_ok();
+    let mut out = Vec::new(alloc);
+    let mut sink = TextSink::new(&mut out);
+    printed.print(&mut sink);
+    let is_put = sink.settle().is_ok();
+    is_fed && is_put && out.as_slice() == output
 }
 
 fn lists_before_a_change(alloc: Global) -> bool {

@@ -2,11 +2,11 @@
 //! decks, which the program `rows` runs.
 ghost use Rattle.mon_guard.specs.Cache.{CacheFits};
 
-use crate::access::account;
+use crate::access::{ANNA, Asked, HUGO, LISA, R, RW, RWX, W, account, perms_of};
 use crate::catalogue::read;
 use acl_text::{AclText, Bytes};
 use mon_access::{Account, Decider};
-use mon_acl::{Perms, Tag};
+use mon_acl::Tag;
 use mon_catalogue::{Catalogue, Version};
 use mon_guard::{Answered, Decided, Guard, GuardAnswer, Reason};
 use mon_text::{Name, read_line, read_name};
@@ -21,14 +21,6 @@ struct Desk {
     ghost fit: { CacheFits guard catalogue },
 }
 
-fn desk_over(alloc: Global, catalogue: Catalogue, name: Name) -> Desk {
-    Desk {
-        guard: Guard::new(alloc),
-        catalogue,
-        name,
-    }
-}
-
 /// The data set of the worked decks.
 const PAYROLL: &str = "$SET PAYROLL anna admin 3
 user::rwx,user:lisa:rw-,group::r--,mask::r--,other::---
@@ -40,7 +32,11 @@ BOB 200
 fn payroll(alloc: Global) -> Option<Desk> {
     let name = read_name(b"PAYROLL").ok()?;
     let catalogue = read(alloc, Version::One, PAYROLL)?;
-    Some(desk_over(alloc, catalogue, name))
+    Some(Desk {
+        guard: Guard::new(alloc),
+        catalogue,
+        name,
+    })
 }
 
 /// The owner, one who may read, and one who may do nothing.
@@ -52,84 +48,66 @@ struct Askers {
 }
 
 fn askers_of(alloc: Global) -> Option<Askers> {
-    let anna = account(alloc, (b"anna", b"admin", b""))?;
-    let lisa = account(alloc, (b"lisa", b"staff", b""))?;
-    let hugo = account(alloc, (b"hugo", b"ops", b"staff"))?;
+    let anna = account(alloc, ANNA)?;
+    let lisa = account(alloc, LISA)?;
+    let hugo = account(alloc, HUGO)?;
     Some(Askers { anna, lisa, hugo })
 }
 
-fn decided(desk: &Desk, account: &Account, request: Perms) -> Decided {
-    desk.guard
-        .decide(account, &desk.catalogue, &desk.name, request)
-}
-
-fn is_granted(desk: &Desk, account: &Account, request: Perms) -> bool {
-    matches!(decided(desk, account, request), Decided::Granted)
-}
-
-fn is_denied_by_mask(desk: &Desk, account: &Account, request: Perms) -> bool {
-    matches!(
-        decided(desk, account, request),
-        Decided::Denied(Decider::Mask)
-    )
-}
-
-fn has_no_set(desk: &Desk, account: &Account, name: &[u8]) -> bool {
-    let read = Perms::new(true, false, false);
-    match read_name(name) {
-        Ok(name) => matches!(
-            desk.guard.decide(account, &desk.catalogue, &name, read),
-            Decided::NoSet
-        ),
-        Err(_) => false,
+// Whether a request is granted, or else denied by the mask.
+fn is_decided(desk: &Desk, account: &Account, asked: Asked, is_granted: bool) -> bool {
+    match desk
+        .guard
+        .decide(account, &desk.catalogue, &desk.name, perms_of(asked))
+    {
+        Decided::Granted => is_granted,
+        Decided::Denied(Decider::Mask) => !is_granted,
+        _ => false,
     }
 }
 
-// The owner may do all, and lisa may read.
+// The owner may do all, lisa may read, and of a set that is not there nothing is decided.
 fn decides(desk: &Desk, askers: &Askers) -> bool {
-    is_granted(desk, &askers.anna, Perms::new(true, true, true))
-        && is_granted(desk, &askers.lisa, Perms::new(true, false, false))
-        && is_denied_by_mask(desk, &askers.lisa, Perms::new(false, true, false))
-        && is_denied_by_mask(desk, &askers.lisa, Perms::new(true, true, false))
-        && has_no_set(desk, &askers.anna, b"GONE")
+    let Ok(gone) = read_name(b"GONE") else {
+        return false;
+    };
+    is_decided(desk, &askers.anna, RWX, true)
+        && is_decided(desk, &askers.lisa, R, true)
+        && is_decided(desk, &askers.lisa, W, false)
+        && is_decided(desk, &askers.lisa, RW, false)
+        && matches!(
+            desk.guard
+                .decide(&askers.anna, &desk.catalogue, &gone, perms_of(R)),
+            Decided::NoSet
+        )
 }
 
-fn is_shown(desk: &Desk, account: &Account) -> bool {
-    matches!(
-        desk.guard.show(account, &desk.catalogue, &desk.name),
-        GuardAnswer::Done
-    )
-}
-
-fn is_not_shown(desk: &Desk, account: &Account, by: Tag) -> bool {
-    matches!(
-        desk.guard.show(account, &desk.catalogue, &desk.name),
-        GuardAnswer::Denied(Reason::By(tag, _)) if tag == by
-    )
+// Whether the list is shown, or else denied by the entry of this type.
+fn is_shown(desk: &Desk, account: &Account, denied_by: Option<Tag>) -> bool {
+    let answer = desk.guard.show(account, &desk.catalogue, &desk.name);
+    match (answer, denied_by) {
+        (GuardAnswer::Done, None) => true,
+        (GuardAnswer::Denied(Reason::By(tag, _)), Some(by)) => tag == by,
+        _ => false,
+    }
 }
 
 // The list and the name are shown to the owner alone, and past the end there is no name.
 fn shows(desk: &Desk, askers: &Askers) -> bool {
-    is_shown(desk, &askers.anna)
-        && is_not_shown(desk, &askers.lisa, Tag::User)
-        && is_not_shown(desk, &askers.hugo, Tag::Other)
+    is_shown(desk, &askers.anna, None)
+        && is_shown(desk, &askers.lisa, Some(Tag::User))
+        && is_shown(desk, &askers.hugo, Some(Tag::Other))
         && desk.guard.list_name(&askers.anna, &desk.catalogue, 0)
         && !desk.guard.list_name(&askers.lisa, &desk.catalogue, 0)
         && !desk.guard.list_name(&askers.anna, &desk.catalogue, 1)
 }
 
-// What is answered to a write.
-fn written(
-    alloc: Global,
-    desk: &mut Desk,
-    account: &Account,
-    at: u64,
-    text: &[u8],
-) -> Option<Answered> {
-    match read_line(alloc, text, 1_024) {
+// What is answered to a write of the second record.
+fn written(alloc: Global, desk: &mut Desk, account: &Account) -> Option<Answered> {
+    match read_line(alloc, b"X", 1_024) {
         Ok(line) => desk
             .guard
-            .write(account, &mut desk.catalogue, &desk.name, at, line)
+            .write(account, &mut desk.catalogue, &desk.name, 1, line)
             .ok(),
         Err(_) => None,
     }
@@ -140,17 +118,6 @@ fn read_at(alloc: Global, desk: &mut Desk, account: &Account, at: u64) -> Option
     desk.guard
         .read(alloc, account, &desk.catalogue, &desk.name, at)
         .ok()
-}
-
-// Whether this record was got at a position, or none was there.
-fn is_got(answered: &Answered, at: u64, text: Option<&[u8]>) -> bool {
-    match (&answered.answer, text) {
-        (GuardAnswer::Got(line), Some(text)) => {
-            answered.position == at.saturating_add(1) && line.as_bytes() == text
-        }
-        (GuardAnswer::EndOfFile, None) => answered.position == at,
-        _ => false,
-    }
 }
 
 // Whether the entry of this type denied it, and the position stays.
@@ -164,9 +131,13 @@ fn is_denied(answered: Option<Answered>, by: Tag, at: u64) -> bool {
     }
 }
 
-fn reads(alloc: Global, desk: &mut Desk, account: &Account, at: u64, text: Option<&[u8]>) -> bool {
+// Whether this record is got at a position.
+fn reads(alloc: Global, desk: &mut Desk, account: &Account, at: u64, text: &[u8]) -> bool {
     match read_at(alloc, desk, account, at) {
-        Some(answered) => is_got(&answered, at, text),
+        Some(answered) => {
+            matches!(&answered.answer, GuardAnswer::Got(line) if line.as_bytes() == text)
+                && answered.position == at.saturating_add(1)
+        }
         None => false,
     }
 }
@@ -176,67 +147,48 @@ fn removed(desk: &mut Desk, account: &Account) -> GuardAnswer {
 }
 
 // Only its owner takes a set away, and once.
-fn removes(desk: &mut Desk, askers: &Askers) -> bool {
-    matches!(
-        removed(desk, &askers.lisa),
-        GuardAnswer::Denied(Reason::NotOwner)
-    ) && matches!(removed(desk, &askers.anna), GuardAnswer::Done)
-        && matches!(
-            removed(desk, &askers.anna),
-            GuardAnswer::Denied(Reason::NoSet)
-        )
-}
-
-fn is_listed(alloc: Global, desk: &mut Desk, account: &Account, text: &AclText) -> bool {
-    matches!(
-        desk.guard
-            .set_acl(alloc, account, &mut desk.catalogue, &desk.name, text),
-        Ok(GuardAnswer::Done)
-    )
+fn removes(desk: &mut Desk, owner: &Account, other: &Account) -> bool {
+    matches!(removed(desk, other), GuardAnswer::Denied(Reason::NotOwner))
+        && matches!(removed(desk, owner), GuardAnswer::Done)
+        && matches!(removed(desk, owner), GuardAnswer::Denied(Reason::NoSet))
 }
 
 // Whether the set is given this list.
 fn lists(alloc: Global, desk: &mut Desk, account: &Account, list: &[u8]) -> bool {
-    match Vec::from_slice(alloc, list) {
-        Ok(text) => is_listed(alloc, desk, account, &AclText::Short(Bytes::new(text))),
-        Err(_) => false,
-    }
-}
-
-fn has_rows(desk: &Desk, rows: u64) -> bool {
-    desk.guard.cached() == rows
+    let Ok(text) = Vec::from_slice(alloc, list) else {
+        return false;
+    };
+    let text = AclText::Short(Bytes::new(text));
+    matches!(
+        desk.guard
+            .set_acl(alloc, account, &mut desk.catalogue, &desk.name, &text),
+        Ok(GuardAnswer::Done)
+    )
 }
 
 // One row for each account that asked, whatever it was answered, until the set's list is another, or the set is gone.
 fn keeps_and_drops(alloc: Global, desk: &mut Desk, askers: &Askers) -> bool {
-    reads(alloc, desk, &askers.lisa, 0, Some(b"ADA 100"))
-        && is_denied(written(alloc, desk, &askers.lisa, 1, b"X"), Tag::Mask, 1)
-        && has_rows(desk, 1)
+    reads(alloc, desk, &askers.lisa, 0, b"ADA 100")
+        && is_denied(written(alloc, desk, &askers.lisa), Tag::Mask, 1)
+        && desk.guard.cached() == 1
         && is_denied(read_at(alloc, desk, &askers.hugo, 0), Tag::Other, 0)
-        && has_rows(desk, 2)
+        && desk.guard.cached() == 2
         && lists(alloc, desk, &askers.anna, b"u::rwx,u:lisa:r,g::,m::r,o::")
-        && has_rows(desk, 0)
-        && reads(alloc, desk, &askers.lisa, 2, Some(b""))
-        && has_rows(desk, 1)
-        && removes(desk, askers)
-        && has_rows(desk, 0)
-}
-
-fn guards_for(alloc: Global, askers: &Askers) -> bool {
-    match payroll(alloc) {
-        Some(mut desk) => {
-            decides(&desk, askers)
-                && shows(&desk, askers)
-                && keeps_and_drops(alloc, &mut desk, askers)
-        }
-        None => false,
-    }
+        && desk.guard.cached() == 0
+        && reads(alloc, desk, &askers.lisa, 2, b"")
+        && desk.guard.cached() == 1
+        && removes(desk, &askers.anna, &askers.lisa)
+        && desk.guard.cached() == 0
 }
 
 fn guards(alloc: Global) -> bool {
-    match askers_of(alloc) {
-        Some(askers) => guards_for(alloc, &askers),
-        None => false,
+    match (payroll(alloc), askers_of(alloc)) {
+        (Some(mut desk), Some(askers)) => {
+            decides(&desk, &askers)
+                && shows(&desk, &askers)
+                && keeps_and_drops(alloc, &mut desk, &askers)
+        }
+        _ => false,
     }
 }
 

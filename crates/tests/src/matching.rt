@@ -36,34 +36,26 @@ fn immediate(alloc: Global) -> Option<Pat> {
     Pat::immediate(alloc, &one, variable).ok()
 }
 
-fn cursor(alloc: Global) -> Option<Pat> {
-    let variable = text_of(alloc, b"X")?;
-    Pat::cursor(alloc, variable).ok()
-}
-
 // `LEN(1) @X`
 fn length_and_cursor(alloc: Global) -> Option<Pat> {
-    let right = cursor(alloc)?;
-    let left = Pat::len(alloc, 1).ok()?;
-    Pat::cat(alloc, &left, &right).ok()
+    let variable = text_of(alloc, b"X")?;
+    let cursor = Pat::cursor(alloc, variable).ok()?;
+    let one = Pat::len(alloc, 1).ok()?;
+    Pat::cat(alloc, &one, &cursor).ok()
 }
 
 // Whether the third step is a fault, and comes within that many steps alone.
-fn ends_in_a_fault(alloc: Global, pattern: &Pat, text: &Text) -> bool {
+fn is_fault(alloc: Global, pattern: Option<Pat>) -> bool {
+    let (Some(pattern), Some(text)) = (pattern, text_of(alloc, b"AB")) else {
+        return false;
+    };
     matches!(
-        matches(alloc, pattern, text, true, 3, &mut Faulty),
+        matches(alloc, &pattern, &text, true, 3, &mut Faulty),
         Ok(MatchEnd::Fault(_))
     ) && matches!(
-        matches(alloc, pattern, text, true, 2, &mut Faulty),
+        matches(alloc, &pattern, &text, true, 2, &mut Faulty),
         Ok(MatchEnd::Limit)
     )
-}
-
-fn is_fault(alloc: Global, pattern: Option<Pat>) -> bool {
-    match (pattern, text_of(alloc, b"AB")) {
-        (Some(pattern), Some(text)) => ends_in_a_fault(alloc, &pattern, &text),
-        _ => false,
-    }
 }
 
 #[test]

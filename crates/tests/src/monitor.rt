@@ -1,5 +1,5 @@
 //! A growth that is refused. The worked commands are decks, which the program `rows` runs.
-use crate::access::is_known;
+use crate::access::{ANNA, is_known};
 use mon_access::Accounts;
 use mon_catalogue::{Catalogue, Mode};
 use mon_command::{Command, execute};
@@ -7,23 +7,19 @@ use mon_guard::Guard;
 use mon_text::read_name;
 use std::alloc::Global;
 
-fn create() -> Option<Command> {
-    let account = read_name(b"anna").ok()?;
-    let name = read_name(b"NOTE").ok()?;
-    Some(Command::Create {
+fn is_created(alloc: Global, accounts: &Accounts, catalogue: &mut Catalogue) -> bool {
+    let (Ok(account), Ok(name)) = (read_name(b"anna"), read_name(b"NOTE")) else {
+        return false;
+    };
+    let command = Command::Create {
         account,
         name,
         mode: Mode::Seq,
-    })
-}
-
-fn is_created(alloc: Global, accounts: &Accounts, catalogue: &mut Catalogue) -> bool {
+    };
     let mut guard = Guard::new(alloc);
-    match create() {
-        Some(command) => {
-            matches!(execute(alloc, accounts, &mut guard, catalogue, command), Ok(printout) if printout.as_slice() == b"CREATE anna NOTE\nDONE\n".as_slice())
-        }
-        None => false,
+    match execute(alloc, accounts, &mut guard, catalogue, command) {
+        Ok(printout) => printout.as_slice() == b"CREATE anna NOTE\nDONE\n".as_slice(),
+        Err(_) => false,
     }
 }
 
@@ -31,7 +27,7 @@ fn is_created(alloc: Global, accounts: &Accounts, catalogue: &mut Catalogue) -> 
 fn is_served_again(alloc: Global) -> bool {
     let mut accounts = Accounts::new(alloc);
     let mut catalogue = Catalogue::new(alloc);
-    is_known(alloc, &mut accounts, (b"anna", b"admin", b""))
+    is_known(alloc, &mut accounts, ANNA)
         && (is_created(alloc, &accounts, &mut catalogue)
             || is_created(alloc, &accounts, &mut catalogue))
 }

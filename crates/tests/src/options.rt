@@ -49,21 +49,14 @@ fn has_slot_for(alloc: Global, options: Options, jobs: u8) -> bool {
 
 // Whether words give so many slots and no more, and a run.
 fn give_slots(alloc: Global, words: &[&str], slots: u8, more: u8) -> bool {
-    match read_options(alloc, Seed::fixed(), words) {
-        Ok(options) => {
-            !options.check
-                && has_slot_for(alloc, options, slots)
-                && !has_slot_for(alloc, options, more)
-        }
-        Err(_) => false,
-    }
+    let Ok(options) = read_options(alloc, Seed::fixed(), words) else {
+        return false;
+    };
+    !options.check && has_slot_for(alloc, options, slots) && !has_slot_for(alloc, options, more)
 }
 
 fn give_a_check(alloc: Global, words: &[&str]) -> bool {
-    match read_options(alloc, Seed::fixed(), words) {
-        Ok(options) => options.check,
-        Err(_) => false,
-    }
+    matches!(read_options(alloc, Seed::fixed(), words), Ok(options) if options.check)
 }
 
 fn are_refused(alloc: Global, words: &[&str]) -> bool {

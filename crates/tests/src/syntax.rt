@@ -1,27 +1,15 @@
 //! The tokens of a long statement, which no program asks for by themselves: no clause can say that memory is there. And what a
 //! refusal says of itself.
-use mon_text::{Line, read_line};
+use mon_text::read_line;
 use sno_syntax::{Place, ProgramCards, SyntaxCode, SyntaxError, lex, statements};
 use std::alloc::Global;
 
-// A card and an END line.
-fn lines_of(alloc: Global, card: &[u8]) -> Option<Vec<Line>> {
+// What is read of a card and an END line.
+fn cards_of(alloc: Global, card: &[u8]) -> Option<ProgramCards> {
     let end = read_line(alloc, b"END", 3).ok()?;
     let line = read_line(alloc, card, 5_000).ok()?;
-    Vec::from_array(alloc, [line, end]).ok()
-}
-
-fn cards_of(alloc: Global, card: &[u8]) -> Option<ProgramCards> {
-    let lines = lines_of(alloc, card)?;
+    let lines = Vec::from_array(alloc, [line, end]).ok()?;
     statements(alloc, &lines).ok()
-}
-
-// Whether the first statement has so many tokens.
-fn has_tokens(alloc: Global, cards: &ProgramCards, count: usize) -> bool {
-    match cards.statements() {
-        [first, ..] => matches!(lex(alloc, first), Ok(tokens) if tokens.tokens().len() == count),
-        _ => false,
-    }
 }
 
 // A label of 190 characters, and 1,000 operators behind it.
@@ -29,9 +17,12 @@ fn reads_a_long_statement(alloc: Global) -> bool {
     let mut card = [b'+'; 1_191];
     card[..190].fill(b'L');
     card[190] = b' ';
-    match cards_of(alloc, &card) {
-        Some(cards) => has_tokens(alloc, &cards, 1_000),
-        None => false,
+    let Some(cards) = cards_of(alloc, &card) else {
+        return false;
+    };
+    match cards.statements() {
+        [first, ..] => matches!(lex(alloc, first), Ok(tokens) if tokens.tokens().len() == 1_000),
+        _ => false,
     }
 }
 

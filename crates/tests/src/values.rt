@@ -6,24 +6,13 @@ use std::alloc::Global;
 /// The most characters that a string of a job has.
 const MOST: u64 = 100_000;
 
-fn has_length(outcome: &Outcome, length: usize) -> bool {
-    match outcome {
-        Outcome::Gives(Value::Text(text)) => text.len() == length,
-        _ => false,
-    }
-}
-
-fn is_longer(alloc: Global, long: Text) -> bool {
-    match concat(alloc, Value::Text(long), Value::Integer(1), MOST + 1) {
-        Ok(outcome) => has_length(&outcome, 100_001),
-        Err(_) => false,
-    }
-}
-
 fn is_joined(alloc: Global) -> bool {
-    match Text::repeated(alloc, b"A".as_slice(), 100_000) {
-        Ok(long) => is_longer(alloc, long),
-        Err(_) => false,
+    let Ok(long) = Text::repeated(alloc, b"A".as_slice(), 100_000) else {
+        return false;
+    };
+    match concat(alloc, Value::Text(long), Value::Integer(1), MOST + 1) {
+        Ok(Outcome::Gives(Value::Text(text))) => text.len() == 100_001,
+        _ => false,
     }
 }
 
