@@ -19,9 +19,5 @@ fn main(rt: HostRuntime) -> Result<ExitCode> {
     running::run_all(&rt, &mut tally)?;
     let Tally { cases, failed } = tally;
     println!(rt; "{cases} cases, {failed} failed")?;
-    Ok(if failed == 0 {
-        ExitCode::SUCCESS
-    } else {
-        ExitCode::FAILURE
-    })
+    Ok(ExitCode::from(u8::from(failed > 0)))
 }

@@ -37,19 +37,11 @@ use std::fs::Files;
 /// Reads the cases of all three folders, and prints a line for each: whether it is read as wanted.
 pub fn read_all<R: Files + Print + AllocGlobal>(rt: &R, tally: &mut Tally) -> Result<()> {
     for form in [Form::Verdicts, Form::Trees, Form::Statements] {
-        read_folder(rt, form, tally)?;
-    }
-    Ok(())
-}
-
-fn read_folder<R: Files + Print + AllocGlobal>(
-    rt: &R,
-    form: Form,
-    tally: &mut Tally,
-) -> Result<()> {
-    let names = list_of(rt, form.list())?;
-    for name in names.lines() {
-        tally.note(holds(rt, form, name)?);
+        let list = format!(in rt.alloc(); "{}.txt", form.folder())?;
+        let names = list_of(rt, list.as_str())?;
+        for name in names.lines() {
+            tally.note(holds(rt, form, name)?);
+        }
     }
     Ok(())
 }

@@ -38,16 +38,11 @@ use std::fs::{self, Files};
 pub fn run_all<R: Files + Print + AllocGlobal>(rt: &R, tally: &mut Tally) -> Result<()> {
     let files = list_of(rt, "files.txt")?;
     for file in files.lines() {
-        run_file(rt, file, tally)?;
-    }
-    Ok(())
-}
-
-fn run_file<R: Files + Print + AllocGlobal>(rt: &R, file: &str, tally: &mut Tally) -> Result<()> {
-    let text = fs::read_to_string(rt, file).context(format_args!("reading {file}"))?;
-    for part in text.split(HEAD).skip(1) {
-        let case = Case::read(part).context(format_args!("{file} has a bad case"))?;
-        tally.note(holds(rt, &case)?);
+        let text = fs::read_to_string(rt, file).context(format_args!("reading {file}"))?;
+        for part in text.split(HEAD).skip(1) {
+            let case = Case::read(part).context(format_args!("{file} has a bad case"))?;
+            tally.note(holds(rt, &case)?);
+        }
     }
     Ok(())
 }
@@ -56,18 +51,12 @@ fn holds<R: Print + AllocGlobal>(rt: &R, case: &Case<'_>) -> Result<bool>
     requires { AreLimits case.now.limits }
 {
     let name = case.name;
-    let seen = match seen_of(rt.alloc(), case) {
-        Ok(seen) => seen,
-        Err(error) => {
-            println!(rt; "FAILED {name}: {error}")?;
-            return Ok(false);
-        }
-    };
-    match first_difference(case.wanted.as_bytes(), &seen) {
-        Some(difference) => {
-            println!(rt; "FAILED {name}: {difference}")?;
-            Ok(false)
-        }
-        None => Ok(true),
+    match seen_of(rt.alloc(), case) {
+        Ok(seen) => match first_difference(case.wanted.as_bytes(), &seen) {
+            Some(difference) => println!(rt; "FAILED {name}: {difference}")?,
+            None => return Ok(true),
+        },
+        Err(error) => println!(rt; "FAILED {name}: {error}")?,
     }
+    Ok(false)
 }

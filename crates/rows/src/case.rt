@@ -1,20 +1,16 @@
 //! A worked deck, the words that it is run with, and what a run of it has to show.
-ghost use Rattle.std.specs.Prelude.{◌≡◌, ◌≢◌, Bool, IfSome, None};
+ghost use Rattle.std.specs.Prelude.{◌≡◌, ◌≢◌, ◌↔◌, Bool, IfSome, IfOk, IsTrue, None};
+ghost use Rattle.rows.specs.Outcomes.{AreSame};
 ghost use Rattle.rows.specs.Words.{words_for, slots_words};
 
 use crate::cuts::first_bad_cut;
-use crate::difference::first_difference;
+use crate::run::run_of;
 use anyhow::{Context, Result};
-use deck_run::{
-    Counts, Devices, MemReader, MemWriter, NoAudit, Options, RunError, Shortage, Slots,
-    exit_status, put_fault, run_deck,
-};
+use deck_run::{MemReader, Options, Slots, exit_status, put_fault};
+use mon_device::first_difference;
 use std::alloc::{AllocError, Global};
 use std::fs;
 use std::rt::Files;
-
-/// Room for the longest output of a case, and for some more.
-const ROOM: usize = 131_072;
 
 /// How many bytes a read and a write move at the most. Each case is run once with each of these pairs.
 const PIECES: [(usize, usize); 5] = [
@@ -44,32 +40,43 @@ impl Case {
     /// Reads the files of a case: `args`, `deck`, `stdout`, `stderr` and `status`, in its own folder of `cases/`.
     pub fn read<R: Files + AllocGlobal>(rt: &R, name: &str) -> Result<Case> {
         let options = read_args(rt, name)?;
-        let wanted = read_outcome(rt, name)?;
+        let status = read_status(rt, name)?;
+        let stdout = read_part(rt, name, "stdout")?;
+        let stderr = read_part(rt, name, "stderr")?;
         let deck = read_part(rt, name, "deck")?;
         Ok(Case {
             options,
             deck,
-            wanted,
+            wanted: Outcome {
+                stdout,
+                stderr,
+                status,
+            },
         })
     }
 
     /// Runs the deck, and prints a line on how it went: `ok NAME`, or what is not as wanted.
     pub fn holds<R: Print + AllocGlobal>(&self, rt: &R, name: &str) -> Result<bool> {
-        let holds = self.is_shown_in_pieces(rt, name)?
-            && self.is_only_checked(rt, name)?
-            && self.is_cut_anywhere(rt, name)?;
-        if holds {
-            println!(rt; "ok {name}")?;
+        if !self.is_shown_in_pieces(rt, name)? {
+            return Ok(false);
         }
-        Ok(holds)
+        if !self.is_only_checked(rt.alloc())? {
+            println!(rt; "FAILED {name}: --check")?;
+            return Ok(false);
+        }
+        if let Some(end) = first_bad_cut(rt.alloc(), self.deck.as_slice(), self.options) {
+            println!(rt; "FAILED {name}: cut behind {end} bytes")?;
+            return Ok(false);
+        }
+        println!(rt; "ok {name}")?;
+        Ok(true)
     }
 
     // Whether all is shown as wanted, in whatever pieces it comes and goes.
     fn is_shown_in_pieces<R: Print + AllocGlobal>(&self, rt: &R, name: &str) -> Result<bool> {
         for (most_read, most_written) in PIECES {
             let seen = self.run(rt.alloc(), self.options, most_read, most_written)?;
-            if let Some(difference) = first_difference(&self.wanted, &seen) {
-                println!(rt; "FAILED {name}: {difference}")?;
+            if !is_wanted(rt, name, &self.wanted, &seen)? {
                 return Ok(false);
             }
         }
@@ -77,37 +84,19 @@ impl Case {
     }
 
     // Whether a run that only checks the deck shows that it is good, or nothing but its refusal.
-    fn is_only_checked<R: Print + AllocGlobal>(&self, rt: &R, name: &str) -> Result<bool> {
+    fn is_only_checked(&self, alloc: Global) -> Result<bool, AllocError> {
         let mut options = self.options;
         options.check = true;
-        let seen = self.run(rt.alloc(), options, usize::MAX, usize::MAX)?;
-        let is_checked = self.is_verdict(&seen);
-        if !is_checked {
-            println!(rt; "FAILED {name}: --check")?;
-        }
-        Ok(is_checked)
-    }
-
-    fn is_verdict(&self, seen: &Outcome) -> bool {
-        let verdict = if self.wanted.status == 0 {
-            b"DECK OK\n".as_slice()
-        } else {
-            b"".as_slice()
+        let seen = self.run(alloc, options, usize::MAX, usize::MAX)?;
+        let verdict = match self.wanted.status {
+            0 => b"DECK OK\n".as_slice(),
+            _ => b"".as_slice(),
         };
-        seen.stdout.as_slice() == verdict
-            && seen.stderr.as_slice() == self.wanted.stderr.as_slice()
-            && seen.status == self.wanted.status
-    }
-
-    // Whether the deck cut anywhere, or read by a reader that fails there, shows what its whole lines print.
-    fn is_cut_anywhere<R: Print + AllocGlobal>(&self, rt: &R, name: &str) -> Result<bool> {
-        match first_bad_cut(rt.alloc(), self.deck.as_slice(), self.options) {
-            Some(end) => {
-                println!(rt; "FAILED {name}: cut behind {end} bytes")?;
-                Ok(false)
-            }
-            None => Ok(true),
-        }
+        Ok(
+            seen.stdout.as_slice() == verdict
+                && seen.stderr.as_slice() == self.wanted.stderr.as_slice()
+                && seen.status == self.wanted.status,
+        )
     }
 
     fn run(
@@ -118,36 +107,44 @@ impl Case {
         most_written: usize,
     ) -> Result<Outcome, AllocError> {
         let reader = MemReader::in_pieces(self.deck.as_slice(), most_read);
-        let writer = MemWriter::in_pieces(alloc, ROOM, most_written)?;
-        let mut devices = Devices::new(reader, writer);
-        let counts = run_deck(
-            alloc,
-            &mut devices,
-            options,
-            &mut Shortage::new(),
-            &mut NoAudit,
-        );
-        outcome_of(alloc, &counts, devices.writer.as_bytes())
+        let run = run_of(alloc, reader, most_written, options)?;
+        let mut stderr = Vec::new(alloc);
+        if let Err(fault) = &run.outcome {
+            put_fault(fault, &mut stderr)?;
+        }
+        let status = exit_status(&run.outcome);
+        Ok(Outcome {
+            stdout: run.output,
+            stderr,
+            status,
+        })
     }
 }
 
-// What a run that answered so and wrote this shows.
-fn outcome_of(
-    alloc: Global,
-    counts: &Result<Counts, RunError>,
-    written: &[u8],
-) -> Result<Outcome, AllocError> {
-    let stdout = Vec::from_slice(alloc, written)?;
-    let mut stderr = Vec::new(alloc);
-    if let Err(fault) = counts {
-        put_fault(fault, &mut stderr)?;
+// Compares the outputs, then what goes to standard error, then the exit statuses, and prints the first difference.
+fn is_wanted<R: Print + AllocGlobal>(
+    rt: &R,
+    name: &str,
+    wanted: &Outcome,
+    seen: &Outcome,
+) -> Result<bool>
+    ensures { IfOk result (λ same. IsTrue same ↔ AreSame wanted.now seen.now) }
+{
+    if let Some(line) = first_difference(&wanted.stdout, &seen.stdout) {
+        println!(rt; "FAILED {name}: stdout, {line}")?;
+        Ok(false)
+    } else if let Some(line) = first_difference(&wanted.stderr, &seen.stderr) {
+        println!(rt; "FAILED {name}: stderr, {line}")?;
+        Ok(false)
+    } else if wanted.status != seen.status {
+        println!(rt;
+            "FAILED {name}: status {} is wanted, and not {}",
+            wanted.status, seen.status
+        )?;
+        Ok(false)
+    } else {
+        Ok(true)
     }
-    let status = exit_status(counts);
-    Ok(Outcome {
-        stdout,
-        stderr,
-        status,
-    })
 }
 
 fn read_part<R: Files + AllocGlobal>(rt: &R, name: &str, part: &str) -> Result<Vec<u8>> {
@@ -155,20 +152,13 @@ fn read_part<R: Files + AllocGlobal>(rt: &R, name: &str, part: &str) -> Result<V
     fs::read(rt, path.as_str()).context(format_args!("reading {path}"))
 }
 
-fn read_outcome<R: Files + AllocGlobal>(rt: &R, name: &str) -> Result<Outcome> {
-    let status = read_status(rt, name)?;
-    let stdout = read_part(rt, name, "stdout")?;
-    let stderr = read_part(rt, name, "stderr")?;
-    Ok(Outcome {
-        stdout,
-        stderr,
-        status,
-    })
-}
-
 fn read_status<R: Files + AllocGlobal>(rt: &R, name: &str) -> Result<u8> {
     let text = read_part(rt, name, "status")?;
-    status_of(text.as_slice()).context("a status is a digit on a line of its own")
+    let status = match text.as_slice() {
+        [digit, b'\n'] => digit.checked_sub(b'0'),
+        _ => None,
+    };
+    status.context("a status is a digit on a line of its own")
 }
 
 fn read_args<R: Files + AllocGlobal>(rt: &R, name: &str) -> Result<Options> {
@@ -187,27 +177,8 @@ fn read_args<R: Files + AllocGlobal>(rt: &R, name: &str) -> Result<Options> {
 fn slots_of(words: &[u8]) -> Option<Slots>
     ensures given { IfSome result (λ slots. words.now ≡ slots_words slots) }
 {
-    match words {
-        [
-            b'-',
-            b'-',
-            b's',
-            b'l',
-            b'o',
-            b't',
-            b's',
-            b'\n',
-            digit,
-            b'\n',
-        ] => { Slots::new(digit.checked_sub(b'0')?) }
-        _ => None,
-    }
-}
-
-/// The exit status that a digit on a line of its own tells.
-fn status_of(text: &[u8]) -> Option<u8> {
-    match text {
-        [digit, b'\n'] => digit.checked_sub(b'0'),
+    match words.strip_prefix(b"--slots\n")? {
+        [digit, b'\n'] => Slots::new(digit.checked_sub(b'0')?),
         _ => None,
     }
 }
@@ -222,7 +193,6 @@ fn options_of(words: &[u8]) -> Option<Options>
         options.check = true;
         Some(options)
     } else if words == b"".as_slice() {
-        options.check = false;
         Some(options)
     } else {
         None

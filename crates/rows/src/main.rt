@@ -8,33 +8,24 @@
 
 mod case;
 mod cuts;
-mod difference;
+mod run;
 mod submissions;
 
 use anyhow::Result;
 use case::Case;
 use mon_device::Tally;
-use std::fs::{self, Files};
+use std::fs;
 use std::process::ExitCode;
-
-fn run_decks<R: Files + Print + AllocGlobal>(rt: &R, tally: &mut Tally) -> Result<()> {
-    let names = fs::read_to_string(rt, "cases.txt")?;
-    for name in names.lines() {
-        let case = Case::read(rt, name)?;
-        tally.note(case.holds(rt, name)?);
-    }
-    Ok(())
-}
 
 fn main(rt: HostRuntime) -> Result<ExitCode> {
     let mut tally = Tally::new();
-    run_decks(&rt, &mut tally)?;
+    let names = fs::read_to_string(&rt, "cases.txt")?;
+    for name in names.lines() {
+        let case = Case::read(&rt, name)?;
+        tally.note(case.holds(&rt, name)?);
+    }
     submissions::run_all(&rt, &mut tally)?;
     let Tally { cases, failed } = tally;
     println!(rt; "{cases} cases, {failed} failed")?;
-    Ok(if failed == 0 {
-        ExitCode::SUCCESS
-    } else {
-        ExitCode::FAILURE
-    })
+    Ok(ExitCode::from(u8::from(failed > 0)))
 }

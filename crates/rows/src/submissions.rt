@@ -72,36 +72,25 @@ fn seen_of(alloc: Global, case: &Case<'_>) -> Result<Vec<u8>> {
 fn holds<R: Print + AllocGlobal>(rt: &R, case: &Case<'_>) -> Result<bool> {
     let name = case.name;
     let wanted = text_of(rt.alloc(), case.wanted)?;
-    let seen = match seen_of(rt.alloc(), case) {
-        Ok(seen) => seen,
-        Err(error) => {
-            println!(rt; "FAILED {name}: {error}")?;
-            return Ok(false);
-        }
-    };
-    match first_difference(&wanted, &seen) {
-        Some(difference) => {
-            println!(rt; "FAILED {name}: {difference}")?;
-            Ok(false)
-        }
-        None => Ok(true),
+    match seen_of(rt.alloc(), case) {
+        Ok(seen) => match first_difference(&wanted, &seen) {
+            Some(difference) => println!(rt; "FAILED {name}: {difference}")?,
+            None => return Ok(true),
+        },
+        Err(error) => println!(rt; "FAILED {name}: {error}")?,
     }
-}
-
-fn run_file<R: Files + Print + AllocGlobal>(rt: &R, file: &str, tally: &mut Tally) -> Result<()> {
-    let text = fs::read_to_string(rt, file).context(format_args!("reading {file}"))?;
-    for part in text.split(HEAD).skip(1) {
-        let case = Case::read(part).context(format_args!("{file} has a bad case"))?;
-        tally.note(holds(rt, &case)?);
-    }
-    Ok(())
+    Ok(false)
 }
 
 /// Tries the cases of the files that `files.txt` names.
 pub fn run_all<R: Files + Print + AllocGlobal>(rt: &R, tally: &mut Tally) -> Result<()> {
     let files = fs::read_to_string(rt, "files.txt")?;
     for file in files.lines() {
-        run_file(rt, file, tally)?;
+        let text = fs::read_to_string(rt, file).context(format_args!("reading {file}"))?;
+        for part in text.split(HEAD).skip(1) {
+            let case = Case::read(part).context(format_args!("{file} has a bad case"))?;
+            tally.note(holds(rt, &case)?);
+        }
     }
     Ok(())
 }

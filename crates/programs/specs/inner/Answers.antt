@@ -10,6 +10,8 @@ use Rattle.sno_syntax.specs.declared.program.Program.{Program}
 use Rattle.sno_syntax.specs.declared.start.Start.{Start}
 use Rattle.sno_syntax.specs.declared.start.Start.TheVariants as start
 use Rattle.sno_syntax.specs.Labels.{LabelList}
+use Rattle.programs.specs.declared.reading.case.Form.{Form}
+use Rattle.programs.specs.declared.reading.case.Form.TheVariants as forms
 use Rattle.programs.specs.inner.Statements.{statement_text}
 
 abbrev pub refusal_text : SyntaxError → List ℕ
@@ -42,25 +44,17 @@ statements_from labels count index (s ∷ ss) =
 abbrev pub statements_text : Program → List ℕ
 statements_text p = statements_from p.labels 0 0 p.statements.items
 
-abbrev pub program_text : Program → List ℕ
-program_text p = statements_text p ++ start_text p.start
+-- a program that is read is shown as the case has it: that it was, its statements and where it starts, or its statements
+abbrev pub program_text : Form → Program → List ℕ
+program_text forms.Verdicts p = codes "parsed\n"
+program_text forms.Trees p = statements_text p ++ start_text p.start
+program_text forms.Statements p = statements_text p
 
 -- where memory ran out nothing is shown, and that is told
 abbrev pub stop_text : Stop SyntaxError → List ℕ
 stop_text (Refused refusal) = refusal_text refusal
 stop_text Memory = []
 
-abbrev pub Answer : Type 0
-Answer = Result Program (Stop SyntaxError)
-
-abbrev pub verdict_text : Answer → List ℕ
-verdict_text (Ok program) = codes "parsed\n"
-verdict_text (Err stop) = stop_text stop
-
-abbrev pub program_answer : Answer → List ℕ
-program_answer (Ok program) = program_text program
-program_answer (Err stop) = stop_text stop
-
-abbrev pub statement_answer : Answer → List ℕ
-statement_answer (Ok program) = statements_text program
-statement_answer (Err stop) = stop_text stop
+abbrev pub answer_text : Form → Result Program (Stop SyntaxError) → List ℕ
+answer_text form (Ok program) = program_text form program
+answer_text form (Err stop) = stop_text stop

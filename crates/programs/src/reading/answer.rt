@@ -1,50 +1,32 @@
 //! What is shown of a program that was read or refused.
-ghost use Rattle.std.specs.Prelude.{◌≡◌, ◌+◌, ◌<◌, ◌≤◌, ◌^◌, ◌++◌, codes, option_map, OnOk};
+ghost use Rattle.std.specs.Prelude.{◌≡◌, ◌+◌, ◌<◌, ◌≤◌, ◌^◌, ◌++◌, option_map, OnOk};
 ghost use Rattle.std.specs.Option.{option_copied};
-ghost use Rattle.sno_statement.specs.Abstraction.{statement_of};
-ghost use Rattle.programs.specs.inner.Statements.{statement_text};
-ghost use Rattle.programs.specs.inner.Answers.{own_label, passed, statements_from, verdict_text, program_answer, statement_answer, statements_text, start_text, stop_text, refusal_text};
+ghost use Rattle.programs.specs.inner.Answers.{own_label, passed, statements_from, answer_text, start_text, refusal_text};
 
+use crate::cards::Answer;
+use crate::reading::case::Form;
 use crate::reading::expression::put;
 use crate::reading::statement::put_statement;
 use mon_text::{Stop, put_number};
 use sno_statement::Statement;
-use sno_syntax::{Labels, Program, Start, SyntaxError};
+use sno_syntax::{Labels, Start, SyntaxError};
 use std::alloc::AllocError;
 
-/// A program, or why there is none.
-pub type Answer = Result<Program, Stop<SyntaxError>>;
-
-/// Appends a line: `parsed`, or where the program is refused.
-pub fn put_verdict(answer: &Answer, out: &mut Vec<u8>) -> Result<(), AllocError>
-    ensures { OnOk result (out.new.items ≡ out.old.items ++ verdict_text answer.now) }
+/// Appends what is shown of a program, a line for each statement or `parsed`; or where it is refused.
+pub fn put_answer(form: Form, answer: &Answer, out: &mut Vec<u8>) -> Result<(), AllocError>
+    ensures { OnOk result (out.new.items ≡ out.old.items ++ answer_text form answer.now) }
 {
     match answer {
-        Ok(_) => put(b"parsed\n", out),
-        Err(stop) => put_stop(*stop, out),
-    }
-}
-
-/// Appends a line for each statement and one for the start, or where the program is refused.
-pub fn put_program(answer: &Answer, out: &mut Vec<u8>) -> Result<(), AllocError>
-    ensures { OnOk result (out.new.items ≡ out.old.items ++ program_answer answer.now) }
-{
-    match answer {
-        Ok(program) => {
-            put_statements(program, out)?;
-            put_start(program.start, out)
-        }
-        Err(stop) => put_stop(*stop, out),
-    }
-}
-
-/// Appends a line for each statement, or where the program is refused.
-pub fn put_statements_of(answer: &Answer, out: &mut Vec<u8>) -> Result<(), AllocError>
-    ensures { OnOk result (out.new.items ≡ out.old.items ++ statement_answer answer.now) }
-{
-    match answer {
-        Ok(program) => put_statements(program, out),
-        Err(stop) => put_stop(*stop, out),
+        Ok(program) => match form {
+            Form::Verdicts => put(b"parsed\n", out),
+            Form::Trees => {
+                put_each(&program.labels, &program.statements, out)?;
+                put_start(program.start, out)
+            }
+            Form::Statements => put_each(&program.labels, &program.statements, out),
+        },
+        Err(Stop::Refused(refusal)) => put_refusal(*refusal, out),
+        Err(Stop::Memory) => Err(AllocError),
     }
 }
 
@@ -79,26 +61,10 @@ fn put_each(labels: &Labels, statements: &[Statement], out: &mut Vec<u8>) -> Res
     for (index, statement) in statements.iter().enumerate() {
         let next = labels.entry(count);
         count = passed(count, next, index);
-        put_line(own_label(next, index), statement, out)?;
+        put_statement(own_label(next, index), statement, out)?;
+        put(b"\n", out)?;
     }
     Ok(())
-}
-
-fn put_line(
-    label: Option<&[u8]>,
-    statement: &Statement,
-    out: &mut Vec<u8>,
-) -> Result<(), AllocError>
-    ensures { OnOk result (out.new.items ≡ out.old.items ++ (statement_text (option_copied label.entry) (statement_of statement.now) ++ codes "\n")) }
-{
-    put_statement(label, statement, out)?;
-    put(b"\n", out)
-}
-
-fn put_statements(program: &Program, out: &mut Vec<u8>) -> Result<(), AllocError>
-    ensures { OnOk result (out.new.items ≡ out.old.items ++ statements_text program.now) }
-{
-    put_each(&program.labels, &program.statements, out)
 }
 
 fn put_start(start: Start, out: &mut Vec<u8>) -> Result<(), AllocError>
@@ -111,15 +77,6 @@ fn put_start(start: Start, out: &mut Vec<u8>) -> Result<(), AllocError>
             put_number(index as u64, out)?;
             put(b"\n", out)
         }
-    }
-}
-
-fn put_stop(stop: Stop<SyntaxError>, out: &mut Vec<u8>) -> Result<(), AllocError>
-    ensures { OnOk result (out.new.items ≡ out.old.items ++ stop_text stop) }
-{
-    match stop {
-        Stop::Refused(refusal) => put_refusal(refusal, out),
-        Stop::Memory => Err(AllocError),
     }
 }
 

@@ -1,7 +1,7 @@
 //! A worked case: its cards, and what must come out.
 
-use crate::cards::{cards_of, program_of, put_card};
-use crate::reading::answer::{Answer, put_program, put_statements_of, put_verdict};
+use crate::cards::program_of;
+use crate::reading::answer::put_answer;
 use anyhow::{Context, Result};
 use mon_device::first_difference;
 use std::alloc::Global;
@@ -20,17 +20,8 @@ pub enum Form {
 }
 
 impl Form {
-    /// The list of the cases.
-    pub fn list(self) -> &'static str {
-        match self {
-            Form::Verdicts => "verdicts.txt",
-            Form::Trees => "trees.txt",
-            Form::Statements => "statements.txt",
-        }
-    }
-
-    /// The folder of the cases.
-    fn folder(self) -> &'static str {
+    /// The folder of the cases. Their list is called so too, with `.txt` behind it.
+    pub fn folder(self) -> &'static str {
         match self {
             Form::Verdicts => "verdicts",
             Form::Trees => "trees",
@@ -41,18 +32,15 @@ impl Form {
 
 /// Reads the cards of a case, and prints a line on it: `ok NAME`, or the first line that is not as wanted.
 pub fn holds<R: Files + Print + AllocGlobal>(rt: &R, form: Form, name: &str) -> Result<bool> {
-    let seen = seen_of(rt, form, name)?;
+    let cards = read_part(rt, form, name, "cards")?;
+    let seen = seen_of(rt.alloc(), form, cards.as_str())?;
     let wanted = read_part(rt, form, name, "wanted")?;
-    match first_difference(wanted.as_bytes(), &seen) {
-        Some(difference) => {
-            println!(rt; "FAILED {name}: {difference}")?;
-            Ok(false)
-        }
-        None => {
-            println!(rt; "ok {name}")?;
-            Ok(true)
-        }
+    if let Some(difference) = first_difference(wanted.as_bytes(), &seen) {
+        println!(rt; "FAILED {name}: {difference}")?;
+        return Ok(false);
     }
+    println!(rt; "ok {name}")?;
+    Ok(true)
 }
 
 fn read_part<R: Files + AllocGlobal>(rt: &R, form: Form, name: &str, part: &str) -> Result<String> {
@@ -60,36 +48,22 @@ fn read_part<R: Files + AllocGlobal>(rt: &R, form: Form, name: &str, part: &str)
     fs::read_to_string(rt, path.as_str()).context(format_args!("reading {path}"))
 }
 
-fn seen_of<R: Files + AllocGlobal>(rt: &R, form: Form, name: &str) -> Result<Vec<u8>> {
-    let cards = read_part(rt, form, name, "cards")?;
-    let mut out = Vec::new(rt.alloc());
-    put_answers(rt.alloc(), form, cards.as_str(), &mut out)?;
-    Ok(out)
-}
-
-fn put_answers(alloc: Global, form: Form, cards: &str, out: &mut Vec<u8>) -> Result<()> {
+fn seen_of(alloc: Global, form: Form, cards: &str) -> Result<Vec<u8>> {
+    let mut out = Vec::new(alloc);
     match form {
-        Form::Verdicts => put_verdict(&read_program(alloc, cards)?, out)?,
-        Form::Trees => put_program(&read_program(alloc, cards)?, out)?,
+        Form::Verdicts | Form::Trees => put_program(alloc, form, cards, &mut out)?,
         Form::Statements => {
             for card in cards.lines() {
-                put_statements_of(&read_card(alloc, card)?, out)?;
+                let cards = format!(in alloc; "{card}\nEND")?;
+                put_program(alloc, form, cards.as_str(), &mut out)?;
             }
         }
     }
+    Ok(out)
+}
+
+fn put_program(alloc: Global, form: Form, cards: &str, out: &mut Vec<u8>) -> Result<()> {
+    let answer = program_of(alloc, cards)?;
+    put_answer(form, &answer, out)?;
     Ok(())
-}
-
-// The program of these cards.
-fn read_program(alloc: Global, cards: &str) -> Result<Answer> {
-    let lines = cards_of(alloc, cards)?;
-    Ok(program_of(alloc, &lines))
-}
-
-// The program of a card and an END line.
-fn read_card(alloc: Global, card: &str) -> Result<Answer> {
-    let mut lines = Vec::new(alloc);
-    put_card(alloc, card, &mut lines)?;
-    put_card(alloc, "END", &mut lines)?;
-    Ok(program_of(alloc, &lines))
 }

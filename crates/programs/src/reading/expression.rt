@@ -1,11 +1,9 @@
 //! Expressions as text: each with its operands behind it, in parentheses.
 ghost use Rattle.std.specs.Prelude.{◌≡◌, ◌++◌, codes, OnOk};
-ghost use Rattle.sno_expression.specs.declared.tree.UnaryOperator.TheVariants.{Indirect};
-ghost use Rattle.sno_expression.specs.Expressions.{Unary};
 ghost use Rattle.sno_expression.specs.Abstraction.{expression_of, arguments_of};
 ghost use Rattle.sno_expression.specs.inner.Runs.{right_of};
 ghost use Rattle.programs.specs.inner.Trees.{expression_text, arguments_text, unary_text, operator_text};
-ghost use Rattle.programs.specs.inner.Runs.{left_text, lefts_text, ends_text};
+ghost use Rattle.programs.specs.inner.Runs.{lefts_text, ends_text};
 
 use itoa::Buffer;
 use sno_expression::{Arguments, BinaryOperator, Expression, Operands, Pending, UnaryOperator};
@@ -27,7 +25,10 @@ pub fn put_expression(expression: &Expression, out: &mut Vec<u8>) -> Result<(), 
 {
     match expression {
         Expression::Identifier(name) => put(name.as_bytes(), out),
-        Expression::Literal(text) => put_literal(text, out),
+        Expression::Literal(text) => {
+            put_word(b"'", text, out)?;
+            put(b"'", out)
+        }
         Expression::Integer(number) => put(Buffer::new().format(*number).as_bytes(), out),
         Expression::Keyword(name) => put_word(b"&", name, out),
         Expression::Unevaluated(name) => put_word(b"*", name, out),
@@ -42,7 +43,8 @@ pub fn put_expression(expression: &Expression, out: &mut Vec<u8>) -> Result<(), 
             put(b")", out)
         }
         Expression::TableItem(item) => {
-            put_item(&item.name, out)?;
+            put_word(b"(item ", &item.name, out)?;
+            put(b" ", out)?;
             put_expression(&item.key, out)?;
             put(b")", out)
         }
@@ -78,18 +80,11 @@ fn put_lefts(run: &[Pending], out: &mut Vec<u8>) -> Result<(), AllocError>
     ensures { OnOk result (out.new.items ≡ out.old.items ++ lefts_text run.now) }
 {
     for i in 0..run.len() {
-        put_left(&run[i], out)?;
+        put_head(operator_text(run[i].operator), out)?;
+        put_expression(&run[i].left, out)?;
+        put(b" ", out)?;
     }
     Ok(())
-}
-
-#[cycle(printing)]
-fn put_left(pending: &Pending, out: &mut Vec<u8>) -> Result<(), AllocError>
-    ensures { OnOk result (out.new.items ≡ out.old.items ++ left_text pending.now) }
-{
-    put_head(operator_text(pending.operator), out)?;
-    put_expression(&pending.left, out)?;
-    put(b" ", out)
 }
 
 // Appends the end of each.
@@ -102,15 +97,6 @@ fn put_ends(run: &[Pending], out: &mut Vec<u8>) -> Result<(), AllocError>
         put(b")", out)?;
     }
     Ok(())
-}
-
-/// Appends the indirect reference by an element.
-pub fn put_indirect(element: &Expression, out: &mut Vec<u8>) -> Result<(), AllocError>
-    ensures { OnOk result (out.new.items ≡ out.old.items ++ expression_text (Unary Indirect (expression_of element.now))) }
-{
-    put_head(unary_text(UnaryOperator::Indirect), out)?;
-    put_expression(element, out)?;
-    put(b")", out)
 }
 
 // Appends a blank and an argument, for each.
@@ -132,14 +118,6 @@ fn put_arguments(arguments: &Arguments, out: &mut Vec<u8>) -> Result<(), AllocEr
     }
 }
 
-// What an item of a table begins with.
-fn put_item(name: &Characters, out: &mut Vec<u8>) -> Result<(), AllocError>
-    ensures { OnOk result (out.new.items ≡ out.old.items ++ codes "(item " ++ name.now ++ codes " ") }
-{
-    put_word(b"(item ", name, out)?;
-    put(b" ", out)
-}
-
 // What an operator and its operands begin with.
 fn put_head(operator: &[u8], out: &mut Vec<u8>) -> Result<(), AllocError>
     ensures { OnOk result (out.new.items ≡ out.old.items ++ codes "(" ++ operator.now ++ codes " ") }
@@ -154,13 +132,6 @@ fn put_word(before: &[u8], name: &Characters, out: &mut Vec<u8>) -> Result<(), A
 {
     put(before, out)?;
     put(name.as_bytes(), out)
-}
-
-fn put_literal(text: &Characters, out: &mut Vec<u8>) -> Result<(), AllocError>
-    ensures { OnOk result (out.new.items ≡ out.old.items ++ codes "'" ++ text.now ++ codes "'") }
-{
-    put_word(b"'", text, out)?;
-    put(b"'", out)
 }
 
 fn unary_text(operator: UnaryOperator) -> &'static [u8]

@@ -5,7 +5,7 @@ ghost use Rattle.sno_expression.specs.Abstraction.{expressions_of};
 ghost use Rattle.sno_statement.specs.Abstraction.{statement_of, body_of, object_of, goto_of, target_of};
 ghost use Rattle.programs.specs.inner.Statements.{statement_text, body_text, pattern_text, object_text, goto_text, target_text};
 
-use crate::reading::expression::{put, put_expression, put_indirect};
+use crate::reading::expression::{put, put_expression};
 use sno_expression::Expression;
 use sno_statement::{Body, Goto, Object, Statement, Target};
 use std::alloc::AllocError;
@@ -99,6 +99,10 @@ fn put_target(target: &Target, out: &mut Vec<u8>) -> Result<(), AllocError>
 {
     match target {
         Target::Label(label) => put(label.as_bytes(), out),
-        Target::Computed(element) => put_indirect(element, out),
+        Target::Computed(element) => {
+            put(b"(unary$ ", out)?;
+            put_expression(element, out)?;
+            put(b")", out)
+        }
     }
 }

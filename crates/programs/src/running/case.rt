@@ -67,10 +67,8 @@ fn limits_of(words: &str) -> Option<Limits>
 fn limit_of(number: &str) -> Option<u64>
     ensures { IfSome result (λ limit. IsLimit limit) }
 {
-    let limit = read_count(number.as_bytes()).ok()?;
-    if limit >= 1 && limit <= MOST {
-        Some(limit)
-    } else {
-        None
+    match read_count(number.as_bytes()) {
+        Ok(limit) if limit >= 1 && limit <= MOST => Some(limit),
+        _ => None,
     }
 }

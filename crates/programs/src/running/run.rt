@@ -3,10 +3,10 @@ ghost use Rattle.sno_cards.specs.Limits.{AreLimits};
 
 use crate::running::case::Case;
 use crate::running::script::{answers_of, program_of};
-use crate::running::seen::{End, put_end, put_requests};
+use crate::running::seen::{put_end, put_requests};
 use anyhow::{Context, Result};
 use interaction::Script;
-use sno_run::{Job, Step, statement_turn};
+use sno_run::{Ending, Job, Step, statement_turn};
 use std::alloc::Global;
 
 /// More turns than a job can have: each but the last begins a statement.
@@ -20,21 +20,18 @@ pub fn seen_of(alloc: Global, case: &Case<'_>) -> Result<Vec<u8>>
     let answers = answers_of(alloc, case.answers)?;
     let mut script = Script::new(alloc, answers);
     let mut job = Job::new(alloc, program, case.limits)?;
-    let end = run(alloc, &mut job, &mut script).context("it goes on for ever")?;
+    let (ending, turns) = run(alloc, &mut job, &mut script).context("it goes on for ever")?;
     let mut out = Vec::new(alloc);
     put_requests(script.asked(), &mut out)?;
-    put_end(end, &mut out)?;
+    put_end(ending, job.statements(), turns, &mut out)?;
     Ok(out)
 }
 
-fn run(alloc: Global, job: &mut Job, script: &mut Script) -> Option<End> {
+// How a job ends, and in how many turns.
+fn run(alloc: Global, job: &mut Job, script: &mut Script) -> Option<(Ending, u64)> {
     for turns in 1..=MOST_TURNS {
         if let Step::Ended(ending) = statement_turn(alloc, job, script) {
-            return Some(End {
-                ending,
-                statements: job.statements(),
-                turns,
-            });
+            return Some((ending, turns));
         }
     }
     None

@@ -1,8 +1,7 @@
 //! Programs and answers, from the lines of a case.
-use crate::cards::{self, cards_of, line_of};
-use anyhow::{Context, Result, bail};
+use crate::cards::{self, line_of};
+use anyhow::{Context, Result};
 use interaction::{Answer, Reason};
-use mon_text::Line;
 use sno_syntax::Program;
 use std::alloc::{AllocError, Global};
 
@@ -11,15 +10,9 @@ const RECORD_LIMIT: usize = 1_024;
 
 /// Reads the program of these cards.
 pub fn program_of(alloc: Global, text: &str) -> Result<Program> {
-    let lines = cards_of(alloc, text)?;
-    read_cards(alloc, &lines)
-}
-
-fn read_cards(alloc: Global, lines: &[Line]) -> Result<Program> {
-    match cards::program_of(alloc, lines) {
-        Ok(program) => Ok(program),
-        Err(_) => bail!("its program is refused"),
-    }
+    cards::program_of(alloc, text)?
+        .ok()
+        .context("its program is refused")
 }
 
 /// Reads the answers of a service: `DONE`, `GOT` with a record, `EOF`, `DENIED` or `FULL`, a line for each.
@@ -38,15 +31,10 @@ fn answer_of(alloc: Global, line: &str) -> Result<Answer> {
         "EOF" => Answer::EndOfFile,
         "DENIED" => Answer::Denied(Reason::NoSet),
         "FULL" => Answer::Full,
-        _ => Answer::Got(record_of(alloc, line)?),
+        "GOT" => Answer::Got(line_of(alloc, "", RECORD_LIMIT)?),
+        _ => {
+            let record = line.strip_prefix("GOT ").context("an unknown answer")?;
+            Answer::Got(line_of(alloc, record, RECORD_LIMIT)?)
+        }
     })
-}
-
-fn record_of(alloc: Global, line: &str) -> Result<Line> {
-    let record = if line == "GOT" {
-        ""
-    } else {
-        line.strip_prefix("GOT ").context("an unknown answer")?
-    };
-    line_of(alloc, record, RECORD_LIMIT)
 }

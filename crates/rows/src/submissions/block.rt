@@ -7,20 +7,14 @@ use std::alloc::{AllocError, Global};
 pub fn text_of(alloc: Global, lines: &str) -> Result<Vec<u8>> {
     let mut text = Vec::new(alloc);
     for line in lines.split('\n') {
-        put_line_of(line, &mut text)?;
+        match line.as_bytes() {
+            [] => {}
+            [b' ', line @ ..] => put_line(line, &mut text)?,
+            [b'-', line @ ..] => text.extend_from_slice(line)?,
+            _ => bail!("a line has neither a blank nor a - before it"),
+        }
     }
     Ok(text)
-}
-
-fn put_line_of(line: &str, text: &mut Vec<u8>) -> Result<()> {
-    if let Some(line) = line.strip_prefix(' ') {
-        put_line(line.as_bytes(), text)?;
-    } else if let Some(line) = line.strip_prefix('-') {
-        text.extend_from_slice(line.as_bytes())?;
-    } else if !line.is_empty() {
-        bail!("a line has neither a blank nor a - before it");
-    }
-    Ok(())
 }
 
 /// Appends a line, and its line end.

@@ -1,7 +1,7 @@
 //! Which limit an account breaks first.
 
 use crate::submissions::block::put_line;
-use anyhow::{Context, Result};
+use anyhow::{Result, bail};
 use preflight::{HandedIn, Limit, Quota, Tally, within};
 use std::alloc::{AllocError, Global};
 
@@ -18,34 +18,18 @@ pub fn seen_of(alloc: Global, given: &str) -> Result<Vec<u8>> {
     Ok(out)
 }
 
-fn read_limits(alloc: Global, line: &str) -> Result<Quota> {
-    limits_of(&numbers_of(alloc, line)?).context("it has no limits")
-}
-
-fn read_owner(alloc: Global, line: &str) -> Result<HandedIn> {
-    owner_of(&numbers_of(alloc, line)?).context("it has no owner")
-}
-
-fn read_tally(alloc: Global, line: &str) -> Result<Tally> {
-    tally_of(&numbers_of(alloc, line)?).context("a text has no tally")
-}
-
 fn numbers_of(alloc: Global, line: &str) -> Result<Vec<u64>> {
     let mut numbers = Vec::new(alloc);
     for word in line.split_whitespace() {
-        put_number_of(word, &mut numbers)?;
+        let number = word.parse::<u64>()?;
+        numbers.push(number).map_err(AllocError::from)?;
     }
     Ok(numbers)
 }
 
-fn put_number_of(word: &str, numbers: &mut Vec<u64>) -> Result<()> {
-    let number = word.parse::<u64>()?;
-    numbers.push(number).map_err(AllocError::from)?;
-    Ok(())
-}
-
-fn limits_of(numbers: &[u64]) -> Option<Quota> {
-    match numbers {
+fn read_limits(alloc: Global, line: &str) -> Result<Quota> {
+    let numbers = numbers_of(alloc, line)?;
+    match numbers.as_slice() {
         [
             texts,
             bytes,
@@ -55,42 +39,40 @@ fn limits_of(numbers: &[u64]) -> Option<Quota> {
             work,
             data_sets,
             records,
-        ] => {
-            Some(Quota {
-                texts: *texts,
-                bytes: *bytes,
-                jobs: *jobs,
-                statements: *statements,
-                largest: *largest,
-                work: *work,
-                data_sets: *data_sets,
-                records: *records,
-            })
-        }
-        _ => None,
+        ] => Ok(Quota {
+            texts: *texts,
+            bytes: *bytes,
+            jobs: *jobs,
+            statements: *statements,
+            largest: *largest,
+            work: *work,
+            data_sets: *data_sets,
+            records: *records,
+        }),
+        _ => bail!("it has no limits"),
     }
 }
 
-fn owner_of(numbers: &[u64]) -> Option<HandedIn> {
-    match numbers {
-        [data_sets, records] => Some(HandedIn::none(*data_sets, *records)),
-        _ => None,
+fn read_owner(alloc: Global, line: &str) -> Result<HandedIn> {
+    let numbers = numbers_of(alloc, line)?;
+    match numbers.as_slice() {
+        [data_sets, records] => Ok(HandedIn::none(*data_sets, *records)),
+        _ => bail!("it has no owner"),
     }
 }
 
-fn tally_of(numbers: &[u64]) -> Option<Tally> {
-    match numbers {
-        [jobs, statements, largest, work, creates, bytes] => {
-            Some(Tally {
-                jobs: *jobs,
-                statements: u128::from(*statements),
-                largest: *largest,
-                work: u128::from(*work),
-                creates: *creates,
-                bytes: *bytes,
-            })
-        }
-        _ => None,
+fn read_tally(alloc: Global, line: &str) -> Result<Tally> {
+    let numbers = numbers_of(alloc, line)?;
+    match numbers.as_slice() {
+        [jobs, statements, largest, work, creates, bytes] => Ok(Tally {
+            jobs: *jobs,
+            statements: u128::from(*statements),
+            largest: *largest,
+            work: u128::from(*work),
+            creates: *creates,
+            bytes: *bytes,
+        }),
+        _ => bail!("a text has no tally"),
     }
 }
 

@@ -21,20 +21,8 @@ pub fn seen_of(alloc: Global, number: &str, given: &str) -> Result<Vec<u8>> {
 fn queues_of<'a>(alloc: Global, given: &'a str) -> Result<Vec<VecDeque<&'a str>>, AllocError> {
     let mut queues = Vec::new(alloc);
     for line in given.lines() {
-        let queue = queue_of(alloc, line)?;
-        queues.push(queue).map_err(AllocError::from)?;
+        let queue: VecDeque<&str> = line.split_whitespace().collect(alloc)?;
+        queues.push(queue)?;
     }
     Ok(queues)
-}
-
-fn queue_of<'a>(alloc: Global, line: &'a str) -> Result<VecDeque<&'a str>, AllocError> {
-    let mut queue = VecDeque::new(alloc);
-    for word in line.split_whitespace() {
-        put_last(word, &mut queue)?;
-    }
-    Ok(queue)
-}
-
-fn put_last<'a>(word: &'a str, queue: &mut VecDeque<&'a str>) -> Result<(), AllocError> {
-    queue.push_back(word).map_err(AllocError::from)
 }

@@ -6,7 +6,7 @@ use anyhow::{Context, Result, bail, ensure};
 use deck_run::{Devices, MemReader, MemWriter, Options, Shortage, Slots, run_deck};
 use mon_catalogue::{Catalogue, Version, read_text};
 use mon_device::TextSink;
-use mon_text::{Line, read_line};
+use mon_text::read_line;
 use preflight::Submission;
 use rounds::{Round, RoundError, compose, compose_head, run_round};
 use std::alloc::{AllocError, Global};
@@ -36,17 +36,13 @@ fn options_of(slots: &str) -> Option<Options> {
 fn texts_of(alloc: Global, given: &str) -> Result<Vec<Submission>> {
     let mut texts = Vec::new(alloc);
     for part in given.split("\n$OF ") {
-        let text = read_submission(alloc, part)?;
+        let (own, lines) = part.split_once('\n').unwrap_or((part, ""));
+        let text = examined(alloc, own, lines)?
+            .ok()
+            .context("a text is refused")?;
         texts.push(text).map_err(AllocError::from)?;
     }
     Ok(texts)
-}
-
-fn read_submission(alloc: Global, part: &str) -> Result<Submission> {
-    let (own, lines) = part.split_once('\n').unwrap_or((part, ""));
-    examined(alloc, own, lines)?
-        .ok()
-        .context("a text is refused")
 }
 
 // The round of these accounts and data sets, and of these texts.
@@ -61,18 +57,14 @@ fn round_of(alloc: Global, options: Options, front: &str, texts: &[Submission]) 
 fn catalogue_of(alloc: Global, sets: &str) -> Result<Catalogue> {
     let mut lines = Vec::new(alloc);
     for line in sets.split("\n ").skip(1) {
-        let line = line_of(alloc, line)?;
+        let line = read_line(alloc, line.as_bytes(), MOST_CHARACTERS)
+            .ok()
+            .context("a line of its data sets is refused")?;
         lines.push(line).map_err(AllocError::from)?;
     }
     read_text(alloc, Version::Two, &lines)
         .ok()
         .context("its data sets are refused")
-}
-
-fn line_of(alloc: Global, line: &str) -> Result<Line> {
-    read_line(alloc, line.as_bytes(), MOST_CHARACTERS)
-        .ok()
-        .context("a line of its data sets is refused")
 }
 
 // Runs the round, and its deck too: both have to print the same, and to tell the same of it.
@@ -127,17 +119,13 @@ fn prints(
 fn put_parts(round: &Round, texts: &[Submission], out: &mut Vec<u8>) -> Result<(), AllocError> {
     let mut begun = 0;
     for (text, end) in texts.iter().zip(&round.ends) {
-        put_heading(text, out)?;
+        out.extend_from_slice(b"$OF ")?;
+        put_line(text.account.as_bytes(), out)?;
         put_part(&round.output, begun, *end, out)?;
         begun = *end;
     }
     put_line(b"$LEFT", out)?;
     put_part(&round.output, begun, round.output.len(), out)
-}
-
-fn put_heading(text: &Submission, out: &mut Vec<u8>) -> Result<(), AllocError> {
-    out.extend_from_slice(b"$OF ")?;
-    put_line(text.account.as_bytes(), out)
 }
 
 fn put_part(output: &[u8], begun: usize, end: usize, out: &mut Vec<u8>) -> Result<(), AllocError> {

@@ -2,58 +2,32 @@
 
 use crate::submissions::block::text_of;
 use anyhow::{Context, Result};
-use mon_text::{Name, Stop, read_name};
-use preflight::{Refusal, Submission, Tally, examine};
+use mon_text::{Stop, read_name};
+use preflight::{Refusal, Submission, examine};
 use std::alloc::{AllocError, Global};
 
 /// The tally of an account's text, or where and why it is refused.
 pub fn seen_of(alloc: Global, own: &str, given: &str) -> Result<Vec<u8>> {
-    Ok(match examined(alloc, own, given)? {
-        Ok(submission) => admitted(alloc, submission.tally)?,
-        Err(refusal) => refused(alloc, refusal)?,
-    })
+    let said = match examined(alloc, own, given)? {
+        Ok(submission) => {
+            let tally = submission.tally;
+            format!(in alloc;
+                "ADMITTED jobs={} statements={} largest={} work={} creates={} bytes={}\n",
+                tally.jobs, tally.statements, tally.largest, tally.work, tally.creates, tally.bytes
+            )?
+        }
+        Err(refusal) => format!(in alloc; "REFUSED {} {}\n", refusal.line, refusal.why.text())?,
+    };
+    Ok(said.into_bytes())
 }
 
-/// What the examination of an account's text comes to.
+/// What the examination of an account's text comes to. Want of memory settles nothing.
 pub fn examined(alloc: Global, own: &str, given: &str) -> Result<Result<Submission, Refusal>> {
-    let own = read_account(own)?;
+    let own = read_name(own.as_bytes()).ok().context("it has no account")?;
     let text = text_of(alloc, given)?;
-    Ok(settled(examine(alloc, &own, &text))?)
-}
-
-fn read_account(own: &str) -> Result<Name> {
-    read_name(own.as_bytes()).ok().context("it has no account")
-}
-
-// Want of memory settles nothing.
-fn settled(
-    answer: Result<Submission, Stop<Refusal>>,
-) -> Result<Result<Submission, Refusal>, AllocError> {
-    match answer {
+    match examine(alloc, &own, &text) {
         Ok(submission) => Ok(Ok(submission)),
         Err(Stop::Refused(refusal)) => Ok(Err(refusal)),
-        Err(Stop::Memory) => Err(AllocError),
+        Err(Stop::Memory) => Err(AllocError.into()),
     }
-}
-
-fn admitted(alloc: Global, tally: Tally) -> Result<Vec<u8>, AllocError> {
-    let Tally {
-        jobs,
-        statements,
-        largest,
-        work,
-        creates,
-        bytes,
-    } = tally;
-    let said = format!(in alloc;
-        "ADMITTED jobs={jobs} statements={statements} largest={largest} work={work} creates={creates} bytes={bytes}\n"
-    )?;
-    Ok(said.into_bytes())
-}
-
-fn refused(alloc: Global, refusal: Refusal) -> Result<Vec<u8>, AllocError> {
-    let Refusal { line, why } = refusal;
-    let why = why.text();
-    let said = format!(in alloc; "REFUSED {line} {why}\n")?;
-    Ok(said.into_bytes())
 }
