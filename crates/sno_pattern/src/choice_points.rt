@@ -9,6 +9,7 @@ ghost use Rattle.sno_pattern.specs.declared.ending.Pending.{Pending as Waits};
 ghost use Rattle.sno_pattern.specs.Steps.{Goal as Aim, Meet, Failure, ends, at_each, outcome};
 ghost use Rattle.sno_pattern.specs.declared.choice_points.Turn.TheVariants.{Go};
 ghost use Rattle.sno_pattern.specs.inner.Stack.{waiting_of, AllWithin, Led};
+ghost use Rattle.sno_pattern.specs.declared.trail.TheConstants.{LAST};
 
 use crate::trail::{Kind, Role, Trail};
 use memchr::memchr;
@@ -105,6 +106,7 @@ pub(crate) fn each(
     trail: &mut Trail,
     left: &mut u64,
 ) -> Result<usize, AllocError>
+    requires short { length text.now ≤ LAST }
     requires cursor { from ≤ length text.now }
     requires all { AllWithin (length text.now) trail.old.opens }
     ensures { IfOk result (λ place. Led text.now trail.old.opens (at_each (outcome text.now) trail.old.goals (range_with_len from (length text.now + 1 - from)) (waiting_of text.now trail.old.waits) left.old) left.old (Go place) trail.new left.new) }
@@ -125,6 +127,7 @@ pub(crate) fn balanced(
     trail: &mut Trail,
     left: u64,
 ) -> Result<usize, AllocError>
+    requires short { length text.now ≤ LAST }
     requires cursor { at ≤ length text.now }
     requires all { AllWithin (length text.now) trail.old.opens }
     ensures { IfOk result (λ place. Led text.now trail.old.opens (at_each (outcome text.now) trail.old.goals (at ∷ balanced_ends text.now at) (waiting_of text.now trail.old.waits) left) left (Go place) trail.new left) }
@@ -141,7 +144,8 @@ pub(crate) fn balanced(
 /// Goes on with the last choice.
 #[inline(always)]
 pub(crate) fn back(text: &[u8], trail: &mut Trail, left: &mut u64) -> Result<Turn, AllocError>
-    requires { AllWithin (length text.now) trail.old.opens }
+    requires short { length text.now ≤ LAST }
+    requires all { AllWithin (length text.now) trail.old.opens }
     ensures { IfOk result (λ turn. Led text.now trail.old.opens (ends Failure left.old) left.old turn trail.new left.new) }
 {
     match trail.back() {

@@ -7,6 +7,7 @@ ghost use Rattle.sno_text.specs.Balance.{part};
 ghost use Rattle.sno_pattern.specs.Looks.{Fits};
 ghost use Rattle.sno_pattern.specs.Steps.{More, EndConditional, EndImmediate, pattern_found, outcome};
 ghost use Rattle.sno_pattern.specs.inner.Stack.{goal_of, variable_in, waiting_of, AllWithin, Led, Moved, resume, rank, assigning, looking};
+ghost use Rattle.sno_pattern.specs.declared.trail.TheConstants.{LAST};
 
 use crate::choice_points::{Ended, Turn, back};
 use crate::host::{Looked, MatchHost, Stop, Taken};
@@ -58,6 +59,7 @@ pub(crate) fn assigned<H: MatchHost>(
     host: &mut H,
 ) -> Result<Turn, AllocError>
     requires ready { H.ready host.old }
+    requires short { length text.now ≤ LAST }
     requires cursor { at ≤ length text.now }
     requires all { AllWithin (length text.now) trail.old.opens }
     ensures moved { IfOk result (λ turn. Moved H.tells H.broken text.now host.old trail.old.opens (assigning text.now variable.now taken trail.old.goals at (waiting_of text.now trail.old.waits) left.old) left.old host.new turn trail.new left.new) }
@@ -83,6 +85,7 @@ pub(crate) fn looked<H: MatchHost>(
     host: &mut H,
 ) -> Result<Turn, AllocError>
     requires ready { H.ready host.old }
+    requires short { length text.now ≤ LAST }
     requires cursor { at ≤ length text.now }
     requires all { AllWithin (length text.now) trail.old.opens }
     ensures moved { IfOk result (λ turn. Moved H.tells H.broken text.now host.old trail.old.opens (looking text.now variable.now trail.old.goals at (waiting_of text.now trail.old.waits) left.old) left.old host.new turn trail.new left.new) }
@@ -109,6 +112,7 @@ fn more(
     trail: &mut Trail,
     left: &mut u64,
 ) -> Result<Turn, AllocError>
+    requires short { length text.now ≤ LAST }
     requires cursor { at ≤ length text.now }
     requires all { AllWithin (length text.now) trail.old.opens }
     ensures led { IfOk result (λ turn. Led text.now trail.old.opens (outcome text.now (More (pattern_of pattern.now.value) from ∷ trail.old.goals) at (waiting_of text.now trail.old.waits) left.old) left.old turn trail.new left.new) }
@@ -145,6 +149,7 @@ fn put_by(
     trail: &mut Trail,
     left: &mut u64,
 ) -> Result<Turn, AllocError>
+    requires short { length text.now ≤ LAST }
     requires cursor { at ≤ length text.now }
     requires all { AllWithin (length text.now) trail.old.opens }
     ensures led { IfOk result (λ turn. Led text.now trail.old.opens (outcome text.now (EndConditional (variable_in (pattern_of node.now)) from ∷ trail.old.goals) at (waiting_of text.now trail.old.waits) left.old) left.old turn trail.new left.new) }
@@ -177,6 +182,7 @@ fn assign_part<H: MatchHost>(
 ) -> Result<Turn, AllocError>
     requires ready { H.ready host.old }
     requires printable { IsLine text.now }
+    requires short { length text.now ≤ LAST }
     requires cursor { at ≤ length text.now }
     requires all { AllWithin (length text.now) trail.old.opens }
     ensures moved { IfOk result (λ turn. Moved H.tells H.broken text.now host.old trail.old.opens (outcome text.now (EndImmediate (variable_in (pattern_of node.now)) from ∷ trail.old.goals) at (waiting_of text.now trail.old.waits) left.old) left.old host.new turn trail.new left.new) }
@@ -208,6 +214,7 @@ pub(crate) fn take<H: MatchHost>(
 ) -> Result<Turn, AllocError>
     requires ready { H.ready host.old }
     requires printable { IsLine text.now }
+    requires short { length text.now ≤ LAST }
     requires cursor { at ≤ length text.now }
     requires all { AllWithin (length text.now) trail.old.opens }
     ensures moved { IfOk result (λ turn. Moved H.tells H.broken text.now host.old trail.old.opens (outcome text.now (goal_of goal ∷ trail.old.goals) at (waiting_of text.now trail.old.waits) left.old) left.old host.new turn trail.new left.new) }

@@ -16,7 +16,7 @@ use crate::ending::{Assignments, MatchEnd, Pending};
 use crate::host::MatchHost;
 use crate::running::run;
 use crate::starting::skip_starts;
-use crate::trail::{Trail, Waiting};
+use crate::trail::{Trail, Waiting, fits};
 use sno_text::{Node, Pat, Text};
 use std::alloc::{AllocError, Global};
 use std::rc::Rc;
@@ -54,6 +54,7 @@ fn matches_from<H: MatchHost>(
     ensures cut { OnErr result (StopsIn H.tells Fits H.broken (finishing text.now (pattern_of pattern.now.value) (starts - first) first limit) host.old host.new) }
     ensures ready { H.ready host.new }
 {
+    fits(text)?;
     let node: &Node = pattern;
     let mut trail = Trail::new(alloc);
     let mut left = limit;
@@ -121,7 +122,7 @@ fn matches_in<H: MatchHost>(
 ///
 /// # Errors
 ///
-/// Where a growth was refused, or four bytes do not say a cursor or how much is ahead; then the host stands as its calls so far left it.
+/// Where a growth was refused, or four bytes do not say a cursor of the text or how much is ahead; then the host stands as its calls so far left it.
 pub fn matches<H: MatchHost>(
     alloc: Global,
     pattern: &Pat,

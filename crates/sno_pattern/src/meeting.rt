@@ -10,12 +10,13 @@ ghost use Rattle.sno_pattern.specs.Looks.{Fits};
 ghost use Rattle.sno_pattern.specs.Steps.{Meet, outcome};
 ghost use Rattle.sno_pattern.specs.inner.Meeting.{pattern_met, IsPlain};
 ghost use Rattle.sno_pattern.specs.inner.Stack.{Second, goal_as, waiting_of, AllWithin, Entering, Led, Moved, resume, rank, assigning};
+ghost use Rattle.sno_pattern.specs.declared.trail.TheConstants.{LAST};
 
 use crate::choice_points::{Ended, Turn};
 use crate::consuming::{assigned, looked};
 use crate::host::{MatchHost, Taken};
 use crate::steps::plain;
-use crate::trail::{Goal, Kind, Role, Trail, fits};
+use crate::trail::{Goal, Kind, Role, Trail};
 use sno_text::reach::{Reach, misses, reached};
 use sno_text::{Named, Node, Text};
 use std::alloc::{AllocError, Global};
@@ -33,6 +34,7 @@ fn put(role: Role, pattern: &Rc<Node>, trail: &mut Trail) -> Result<(), AllocErr
 /// Leaves a pattern to be tried where the one before it fails.
 #[inline(always)]
 fn leave(other: &Rc<Node>, at: usize, trail: &mut Trail) -> Result<(), AllocError>
+    requires { at ≤ LAST }
     ensures { IfOk result (λ u. trail.new ≡ record { goals = trail.old.goals; waits = trail.old.waits; opens = record { trial = Second (pattern_of other.now.value); goals = trail.old.goals; at = at; waits = trail.old.waits } ∷ trail.old.opens }) }
 {
     let node = other.clone()?;
@@ -56,6 +58,7 @@ fn descend<'a>(
     trail: &mut Trail,
     left: &mut u64,
 ) -> Result<Option<(Part<'a>, usize)>, AllocError>
+    requires short { length text.now ≤ LAST }
     requires cursor { from ≤ length text.now }
     requires all { AllWithin (length text.now) trail.old.opens }
     ensures { IfOk result (λ found. MatchOption found (Led text.now trail.old.opens (outcome text.now (Meet (pattern_of pattern.now.value) ∷ trail.old.goals) from (waiting_of text.now trail.old.waits) left.old) left.old (Stay OutOfSteps) trail.new left.new) (λ part. Entering text.now trail.old.opens (outcome text.now (Meet (pattern_of pattern.now.value) ∷ trail.old.goals) from (waiting_of text.now trail.old.waits) left.old) left.old (pattern_met part.0) trail.new.goals part.1 (waiting_of text.now trail.new.waits) trail.new.opens left.new × IsPlain part.0)) }
@@ -90,12 +93,10 @@ fn descend<'a>(
                 }
             }
             Node::Conditional(_, p, _) => {
-                fits(at)?;
                 put(Role::EndConditional(at as u32), node, trail)?;
                 node = p;
             }
             Node::Immediate(_, p, _) => {
-                fits(at)?;
                 put(Role::EndImmediate(at as u32), node, trail)?;
                 node = p;
             }
@@ -117,6 +118,7 @@ fn assign_cursor<H: MatchHost>(
     host: &mut H,
 ) -> Result<Turn, AllocError>
     requires ready { H.ready host.old }
+    requires short { length text.now ≤ LAST }
     requires cursor { at ≤ length text.now }
     requires all { AllWithin (length text.now) trail.old.opens }
     ensures moved { IfOk result (λ turn. Moved H.tells H.broken text.now host.old trail.old.opens (assigning text.now variable.now (Cursor at) trail.old.goals at (waiting_of text.now trail.old.waits) left.old) left.old host.new turn trail.new left.new) }
@@ -142,6 +144,7 @@ pub(crate) fn meet<H: MatchHost>(
     host: &mut H,
 ) -> Result<Turn, AllocError>
     requires ready { H.ready host.old }
+    requires short { length text.now ≤ LAST }
     requires cursor { start ≤ length text.now }
     requires all { AllWithin (length text.now) trail.old.opens }
     ensures moved { IfOk result (λ turn. Moved H.tells H.broken text.now host.old trail.old.opens (outcome text.now (Meet (pattern_of pattern.value) ∷ trail.old.goals) start (waiting_of text.now trail.old.waits) left.old) left.old host.new turn trail.new left.new) }

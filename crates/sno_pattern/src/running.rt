@@ -6,6 +6,7 @@ ghost use Rattle.interaction.specs.Holding.{RunsTo, StopsIn};
 ghost use Rattle.sno_pattern.specs.Looks.{Fits};
 ghost use Rattle.sno_pattern.specs.Steps.{Meet, outcome};
 ghost use Rattle.sno_pattern.specs.inner.Running.{outcome_of};
+ghost use Rattle.sno_pattern.specs.declared.trail.TheConstants.{LAST};
 
 use crate::choice_points::{Ended, Turn};
 use crate::consuming::take;
@@ -38,6 +39,7 @@ pub(crate) fn run<H: MatchHost>(
 ) -> Result<Attempt, AllocError>
     requires ready { H.ready host.old }
     requires printable { IsLine text.now }
+    requires short { length text.now ≤ LAST }
     requires within { start ≤ length text.now }
     ensures held { IfOk result (λ a. RunsTo H.tells Fits (outcome text.now (Meet (pattern_of pattern.now.value) ∷ []) start [] limit) host.old (outcome_of text.now trail.new.waits a) host.new) }
     ensures cut { OnErr result (StopsIn H.tells Fits H.broken (outcome text.now (Meet (pattern_of pattern.now.value) ∷ []) start [] limit) host.old host.new) }

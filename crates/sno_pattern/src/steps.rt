@@ -5,9 +5,10 @@ ghost use Rattle.sno_text.specs.Patterns as rows;
 ghost use Rattle.sno_pattern.specs.Steps.{Meet, row, outcome};
 ghost use Rattle.sno_pattern.specs.inner.Meeting.{IsQuiet, IsEntered, IsParted};
 ghost use Rattle.sno_pattern.specs.inner.Stack.{waiting_of, AllWithin, Led};
+ghost use Rattle.sno_pattern.specs.declared.trail.TheConstants.{LAST};
 
 use crate::choice_points::{Ended, Turn, back, balanced, each};
-use crate::trail::{Goal, Kind, Role, Trail, fits};
+use crate::trail::{Goal, Kind, Role, Trail};
 use sno_text::Node;
 use sno_text::reach::{Reach, next_balanced, reached};
 use std::alloc::AllocError;
@@ -22,11 +23,11 @@ pub(crate) fn one_more(
     trail: &mut Trail,
     left: u64,
 ) -> Result<Turn, AllocError>
+    requires short { length text.now ≤ LAST }
     requires cursor { at ≤ length text.now }
     requires all { AllWithin (length text.now) trail.old.opens }
     ensures { IfOk result (λ turn. Led text.now trail.old.opens (row text.now (outcome text.now) (Meet (rows.Arbno (pattern_of pattern.now.value))) trail.old.goals at (waiting_of text.now trail.old.waits) left) left turn trail.new left) }
 {
-    fits(at)?;
     trail.push(Goal {
         role: Role::More(at as u32),
         node: pattern.clone()?,
@@ -44,6 +45,7 @@ fn succeed(
     trail: &mut Trail,
     left: u64,
 ) -> Result<Turn, AllocError>
+    requires short { length text.now ≤ LAST }
     requires cursor { at ≤ length text.now }
     requires all { AllWithin (length text.now) trail.old.opens }
     requires succeeds { pattern_of node.now.value ≡ rows.Succeed }
@@ -62,6 +64,7 @@ fn parted(
     trail: &mut Trail,
     left: &mut u64,
 ) -> Result<Turn, AllocError>
+    requires short { length text.now ≤ LAST }
     requires cursor { at ≤ length text.now }
     requires all { AllWithin (length text.now) trail.old.opens }
     requires parted { IsParted (pattern_of node.now.value) }
@@ -93,6 +96,7 @@ pub(crate) fn plain(
     trail: &mut Trail,
     left: &mut u64,
 ) -> Result<Turn, AllocError>
+    requires short { length text.now ≤ LAST }
     requires cursor { at ≤ length text.now }
     requires all { AllWithin (length text.now) trail.old.opens }
     requires quiet { IsQuiet (pattern_of node.now.value) }

@@ -2,7 +2,7 @@
 //!
 //! The goals stand in one vector, each with the place of those behind it. So choices share them, a goal takes no memory of its
 //! own, and where a choice is taken all that came after it is cut off. Places and cursors take four bytes each.
-ghost use Rattle.std.specs.Prelude.{◌≡◌, ◌<◌, ◌≤◌, [], ◌∷◌, ◌++◌, drop, vec_len, vec_capacity, IfOk, OnOk, OnErr, IfSome};
+ghost use Rattle.std.specs.Prelude.{◌≡◌, ◌<◌, ◌≤◌, [], ◌∷◌, ◌++◌, drop, length, vec_len, vec_capacity, IfOk, OnOk, OnErr, IfSome};
 ghost use Rattle.std.specs.Option.{MatchOption};
 ghost use Rattle.sno_pattern.specs.inner.Stack.{goal_of, trial_of, nothing_ahead};
 
@@ -70,14 +70,17 @@ pub(crate) struct Open {
 }
 
 // The last place that four bytes say.
-const LAST: usize = u32::MAX as usize;
+pub(crate) const LAST: usize = u32::MAX as usize;
 
-/// Tests that four bytes can say a cursor.
-#[inline(always)]
-pub(crate) fn fits(at: usize) -> Result<(), AllocError>
-    ensures { OnOk result (at ≤ LAST) }
+/// Tests that four bytes can say each cursor of a text.
+///
+/// # Errors
+///
+/// Where the text has more than 4,294,967,295 characters.
+pub(crate) fn fits(text: &[u8]) -> Result<(), AllocError>
+    ensures { OnOk result (length text.now ≤ LAST) }
 {
-    if at > LAST {
+    if text.len() > LAST {
         return Err(AllocError);
     }
     Ok(())
@@ -185,7 +188,7 @@ impl Trail {
     ///
     /// # Errors
     ///
-    /// Where a growth was refused, or a place or a cursor did not fit in four bytes; so it is for each call here.
+    /// Where a growth was refused, or a place did not fit in four bytes; so it is for each call here.
     #[inline(always)]
     pub(crate) fn push(&mut self, goal: Goal) -> Result<(), AllocError>
         ensures { IfOk result (λ u. self.new ≡ record { goals = goal_of goal ∷ self.old.goals; waits = self.old.waits; opens = self.old.opens }) }
@@ -256,9 +259,9 @@ impl Trail {
     /// Leaves the goals ahead to be tried so, from a cursor, where all that comes before fails.
     #[inline(always)]
     pub(crate) fn leave(&mut self, kind: Kind, at: usize) -> Result<(), AllocError>
+        requires { at ≤ LAST }
         ensures { IfOk result (λ u. self.new ≡ record { goals = self.old.goals; waits = self.old.waits; opens = record { trial = trial_of kind; goals = self.old.goals; at = at; waits = self.old.waits } ∷ self.old.opens }) }
     {
-        fits(at)?;
         let open = Open {
             kind,
             at: at as u32,

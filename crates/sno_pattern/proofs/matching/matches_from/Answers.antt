@@ -3,6 +3,8 @@ use Rattle.sno_pattern.specs.{inner.Running.{finishing}, Steps.{Success, WholeFa
 use Rattle.sno_pattern.specs.declared.ending.MatchEnd.TheVariants.{Matched, NoMatch, Limit, Fault as Faulted}
 use Rattle.sno_pattern.proofs.Run.{came_stops, came_as, came_start, came_next, came_end, came_settles, came_breaks, err_holds}
 use Rattle.sno_text.specs.Nodes.{pattern_of}
+use Rattle.sno_pattern.specs.Looks.{Fits}
+use Rattle.interaction.proofs.Held.{cut_here}
 use Rattle.sno_pattern.proofs.matching.matches_from.Goals as goal
 
 pub loop-from-init : goal.loop-from-init
@@ -13,6 +15,11 @@ loop-from-init g c =
           (c.args.starts - c.args.first) c.args.first c.args.limit refl;
       ready = c.requires.ready;
     }
+
+pub returns-in_err-fits-clause-cut : goal.returns-in_err-fits-clause-cut
+returns-in_err-fits-clause-cut g c =
+    err_holds _ (cut_here g.H.MatchHost.tells Fits g.H.MatchHost.broken
+    (finishing c.args.text.now (pattern_of c.args.pattern.now.value) (c.args.starts - c.args.first) c.args.first c.args.limit) c.args.host.now)
 
 pub loop-from-preserved : goal.loop-from-preserved
 loop-from-preserved g c =
