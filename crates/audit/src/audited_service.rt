@@ -1,10 +1,11 @@
 //! The service that answers a program's requests from units and data sets, and puts a line for each to an audit.
-ghost use Rattle.std.specs.Prelude.{◌≡◌, IfOk, OnErr};
+ghost use Rattle.std.specs.Prelude.{◌≡◌, ◌≤◌, length, IfOk, OnErr};
 ghost use Rattle.std.specs.Option.{option_copied, option_and_then};
+ghost use Rattle.mon_text.specs.Lines.{IsLine};
 ghost use Rattle.mon_catalogue.specs.Sets.{find_set};
 ghost use Rattle.mon_unit.specs.Lent.{reach_of};
 ghost use Rattle.mon_unit.specs.Serving.{unit_of, note_act, set_at};
-ghost use Rattle.interaction.specs.Fitting.{Fits, IsShort};
+ghost use Rattle.interaction.specs.Fitting.{Fits, IsShort, writing};
 ghost use Rattle.mon_guard.specs.Cache.{CacheFits};
 ghost use Rattle.audit.specs.Requests.{asked_at, asked_of};
 ghost use Rattle.audit.specs.AuditedAnswers.{Audited};
@@ -16,6 +17,7 @@ use crate::request::{AuditedRequest, grant, place, print_request};
 use interaction::{Act, Answer, Request, Service};
 use mon_catalogue::{Catalogue, DataSet};
 use mon_device::Sink;
+use mon_text::Line;
 use mon_unit::{NoteAct, Target, Tie, UnitService};
 use std::alloc::AllocError;
 
@@ -48,14 +50,14 @@ impl<S: Sink> Service for AuditedService<'_, '_, S> {
         if !self.audit.listens() {
             return self.service.ask(request);
         }
-        ask_copied(self.service, request, self.kept, self.audit)
+        ask_heeded(self.service, request, self.kept, self.audit)
     }
 
-    fn ask_once(&mut self, request: Request) -> Result<Answer, AllocError> {
+    fn write(&mut self, statement: u64, unit: u64, line: &[u8]) -> Result<Answer, AllocError> {
         if !self.audit.listens() {
-            return self.service.ask_once(request);
+            return self.service.write(statement, unit, line);
         }
-        ask_heeded(self.service, request, self.kept, self.audit)
+        write_heeded(self.service, statement, unit, line, self.kept, self.audit)
     }
 
     fn is_late(&self) -> bool {
@@ -67,37 +69,6 @@ impl<S: Sink> Service for AuditedService<'_, '_, S> {
 // call, so that where nobody listens there is nothing but the question whether somebody does.
 #[inline(never)]
 fn ask_heeded<S: Sink>(
-    service: &mut UnitService,
-    request: Request,
-    kept: &mut AuditCache,
-    sink: &mut S,
-) -> Result<Answer, AllocError>
-    requires fit { CacheFits service.old.guard.now service.old.catalogue.now }
-    requires kept { KeptFits kept.old.number service.old.account.now (reach_of service.old) kept.old }
-    requires short { IsShort request.act }
-    ensures answered { IfOk result (λ answer.
-        Audited kept.old.number service.old (S.standing sink.old) request answer kept.new.number service.new (S.standing sink.new)) }
-    ensures fits { IfOk result (λ answer. Fits request answer) }
-    ensures unchanged { OnErr result ((service.new ≡ service.old) × (kept.new ≡ kept.old) × (sink.new ≡ sink.old)) }
-    ensures fit { CacheFits service.new.guard.now service.new.catalogue.now }
-    ensures kept { KeptFits kept.new.number service.new.account.now (reach_of service.new) kept.new }
-{
-    let statement = request.statement;
-    if let Some((line, place)) = kept.known(service, &request.act) {
-        let answer = service.ask_once(request)?;
-        print_again(line, statement, place, &answer, sink);
-        return Ok(answer);
-    }
-    let asked = asked_by(kept.number, service, statement, &request.act);
-    let answer = service.ask_once(request)?;
-    print_request(&asked, &answer, sink);
-    kept.keep(service.alloc, &asked, service.catalogue);
-    Ok(answer)
-}
-
-// Answers a request as `ask_heeded` does, by a copy of it. It stays a call for the same reason.
-#[inline(never)]
-fn ask_copied<S: Sink>(
     service: &mut UnitService,
     request: &Request,
     kept: &mut AuditCache,
@@ -113,8 +84,43 @@ fn ask_copied<S: Sink>(
     ensures fit { CacheFits service.new.guard.now service.new.catalogue.now }
     ensures kept { KeptFits kept.new.number service.new.account.now (reach_of service.new) kept.new }
 {
-    let request = request.copy(service.alloc)?;
-    ask_heeded(service, request, kept, sink)
+    let statement = request.statement;
+    if let Some((line, place)) = kept.known(service, &request.act) {
+        let answer = service.ask(request)?;
+        print_again(line, statement, place, &answer, sink);
+        return Ok(answer);
+    }
+    let asked = asked_by(kept.number, service, statement, &request.act);
+    let answer = service.ask(request)?;
+    print_request(&asked, &answer, sink);
+    kept.keep(service.alloc, &asked, service.catalogue);
+    Ok(answer)
+}
+
+// Writes a line as `ask_heeded` answers a request, from a copy of it. It stays a call for the same reason.
+#[inline(never)]
+fn write_heeded<S: Sink>(
+    service: &mut UnitService,
+    statement: u64,
+    unit: u64,
+    line: &[u8],
+    kept: &mut AuditCache,
+    sink: &mut S,
+) -> Result<Answer, AllocError>
+    requires fit { CacheFits service.old.guard.now service.old.catalogue.now }
+    requires kept { KeptFits kept.old.number service.old.account.now (reach_of service.old) kept.old }
+    requires printable { IsLine line.now }
+    requires short { length line.now ≤ 1024 }
+    ensures answered { IfOk result (λ answer.
+        Audited kept.old.number service.old (S.standing sink.old) (writing statement unit line.now) answer kept.new.number service.new (S.standing sink.new)) }
+    ensures fits { IfOk result (λ answer. Fits (writing statement unit line.now) answer) }
+    ensures unchanged { OnErr result ((service.new ≡ service.old) × (kept.new ≡ kept.old) × (sink.new ≡ sink.old)) }
+    ensures fit { CacheFits service.new.guard.now service.new.catalogue.now }
+    ensures kept { KeptFits kept.new.number service.new.account.now (reach_of service.new) kept.new }
+{
+    let room = Vec::with_capacity(service.alloc, line.len())?;
+    let act = Act::Write(unit, Line::in_room(room, line));
+    ask_heeded(service, &Request { statement, act }, kept, sink)
 }
 
 // What the line of a request says, as the units and the data sets stand.

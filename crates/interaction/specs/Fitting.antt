@@ -1,5 +1,5 @@
 -- Which answers a request may have (own).
-use Rattle.std.specs.Prelude.{Bool, true, false, ◌≤◌, length, IsTrue}
+use Rattle.std.specs.Prelude.{Bool, true, false, ℕ, List, ◌≤◌, length, IsTrue}
 use Rattle.interaction.specs.declared.request.Act.{Act}
 use Rattle.interaction.specs.declared.request.Act.TheVariants.{Read, Write, Endfile, Rewind}
 use Rattle.interaction.specs.declared.request.Request.{Request}
@@ -37,3 +37,7 @@ IsShort (Write u line) = length line ≤ 1024
 IsShort (Read u) = Unit {0}
 IsShort (Endfile u) = Unit {0}
 IsShort (Rewind u) = Unit {0}
+
+-- what asks that a line be written
+abbrev pub writing : ℕ → ℕ → List ℕ → Request
+writing statement unit line = record { statement = statement; act = Write unit line }

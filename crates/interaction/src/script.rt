@@ -6,6 +6,7 @@ ghost use Rattle.interaction.specs.Scripts.{next_answer, scripted};
 use crate::answer::Answer;
 use crate::request::{Act, Request};
 use crate::service::Service;
+use mon_text::Line;
 use std::alloc::{AllocError, Global};
 use std::marker::Model;
 
@@ -85,5 +86,12 @@ impl Service for Script {
         let kept = request.copy(self.alloc)?;
         self.asked.push(kept)?;
         Ok(self.next(&request.act))
+    }
+
+    fn write(&mut self, statement: u64, unit: u64, line: &[u8]) -> Result<Answer, AllocError> {
+        let room = Vec::with_capacity(self.alloc, line.len())?;
+        let act = Act::Write(unit, Line::in_room(room, line));
+        let request = Request { statement, act };
+        self.ask(&request)
     }
 }

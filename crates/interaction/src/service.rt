@@ -1,6 +1,7 @@
 //! What answers the requests of a program.
-ghost use Rattle.std.specs.Prelude.{◌≡◌, IfOk, OnErr};
-ghost use Rattle.interaction.specs.Fitting.{Fits, IsShort};
+ghost use Rattle.std.specs.Prelude.{◌≡◌, ◌≤◌, length, IfOk, OnErr};
+ghost use Rattle.mon_text.specs.Lines.{IsLine};
+ghost use Rattle.interaction.specs.Fitting.{Fits, IsShort, writing};
 
 use crate::answer::Answer;
 use crate::request::Request;
@@ -30,21 +31,19 @@ pub trait Service {
         ensures unchanged { OnErr result (self.new ≡ self.old) }
         ensures ready { ready self.new };
 
-    /// Answers a request that is not needed again, so that its line may become the record.
+    /// Writes a line of at most 1,024 printable characters: answers what `ask` answers to that request, from a line that stays its owner's.
     ///
     /// # Errors
     ///
     /// Where a growth was refused. Nothing has changed then.
-    fn ask_once(&mut self, request: Request) -> Result<Answer, AllocError>
+    fn write(&mut self, statement: u64, unit: u64, line: &[u8]) -> Result<Answer, AllocError>
         requires ready { ready self.old }
-        requires short { IsShort request.act }
-        ensures answered { IfOk result (λ answer. answers self.old request answer self.new) }
-        ensures fits { IfOk result (λ answer. Fits request answer) }
+        requires printable { IsLine line.now }
+        requires short { length line.now ≤ 1024 }
+        ensures answered { IfOk result (λ answer. answers self.old (writing statement unit line.now) answer self.new) }
+        ensures fits { IfOk result (λ answer. Fits (writing statement unit line.now) answer) }
         ensures unchanged { OnErr result (self.new ≡ self.old) }
-        ensures ready { ready self.new }
-    {
-        self.ask(&request)
-    }
+        ensures ready { ready self.new };
 
     /// Whether the program is to be broken off, as where a growth is refused. It is asked now and then.
     fn is_late(&self) -> bool {

@@ -168,7 +168,7 @@ fn add_line(alloc: Global, text: &[u8], set: &mut DataSet) -> Result<(), Stop<No
         Ok(line) => line,
         Err(stop) => return Err(stopped(stop)),
     };
-    match set.append(line) {
+    match set.append(line.as_bytes()) {
         Ok(()) => Ok(()),
         Err(stop) => Err(stopped(stop)),
     }

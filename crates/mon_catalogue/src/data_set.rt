@@ -12,7 +12,7 @@ ghost use Rattle.mon_catalogue.specs.Writing.{Put, Cut, Add, recorded, records_a
 use crate::mode::Mode;
 use mon_acl::Acl;
 use mon_device::Sink;
-use mon_text::{Line, Name, Stop};
+use mon_text::{Name, Stop};
 use packed_lines::PackedLines;
 use std::alloc::{AllocError, Global};
 use std::marker::Model;
@@ -134,35 +134,37 @@ impl Records {
     }
 
     // Puts a line at a position, and cuts off what stands behind it.
-    fn put_at(&mut self, position: u64, line: Line) -> Result<(), Stop<SetFull>>
-        requires short { length line ≤ MOST_RECORD_CHARACTERS }
-        ensures put { OnOk result (self.new ≡ records_after (Put position line) self.old) }
-        ensures refused { refused_as result ≡ change_refusal (Put position line) self.old }
+    fn put_at(&mut self, position: u64, line: &[u8]) -> Result<(), Stop<SetFull>>
+        requires short { length line.now ≤ MOST_RECORD_CHARACTERS }
+        requires printable { IsLine line.now }
+        ensures put { OnOk result (self.new ≡ records_after (Put position line.now) self.old) }
+        ensures refused { refused_as result ≡ change_refusal (Put position line.now) self.old }
         ensures unchanged { OnErr result (self.new ≡ self.old) }
         ensures memory { IsErrOf result Stop.Memory → length self.old ≤ position }
     {
         if position < self.len() {
-            self.lines.put_at(position as usize, line.as_bytes());
+            self.lines.put_at(position as usize, line);
             return Ok(());
         }
         if self.len() >= MOST_RECORDS {
             return Err(Stop::Refused(SetFull));
         }
-        self.push(line.as_bytes())?;
+        self.push(line)?;
         Ok(())
     }
 
     // Puts a line last.
-    fn add(&mut self, line: Line) -> Result<(), Stop<SetFull>>
-        requires short { length line ≤ MOST_RECORD_CHARACTERS }
-        ensures added { OnOk result (self.new ≡ records_after (Add line) self.old) }
-        ensures refused { refused_as result ≡ change_refusal (Add line) self.old }
+    fn add(&mut self, line: &[u8]) -> Result<(), Stop<SetFull>>
+        requires short { length line.now ≤ MOST_RECORD_CHARACTERS }
+        requires printable { IsLine line.now }
+        ensures added { OnOk result (self.new ≡ records_after (Add line.now) self.old) }
+        ensures refused { refused_as result ≡ change_refusal (Add line.now) self.old }
         ensures unchanged { OnErr result (self.new ≡ self.old) }
     {
         if self.len() >= MOST_RECORDS {
             return Err(Stop::Refused(SetFull));
         }
-        self.push(line.as_bytes())?;
+        self.push(line)?;
         Ok(())
     }
 
@@ -198,33 +200,35 @@ impl DataSet {
         self.records.get(index)
     }
 
-    /// Puts a record of at most 1,024 characters at a position, counted from 0, or at the end where fewer stand before it.
-    /// What stood there and behind it is gone. Memory is taken at the end alone.
+    /// Puts a record of at most 1,024 printable characters at a position, counted from 0, or at the end where fewer stand
+    /// before it. What stood there and behind it is gone. Memory is taken at the end alone.
     ///
     /// # Errors
     ///
     /// `SetFull` where 100,000 records stand before the position, whatever memory there is; `Memory` where a growth was
     /// refused. The set is then unchanged.
-    pub fn put_at(&mut self, position: u64, line: Line) -> Result<(), Stop<SetFull>>
-        requires short { length line ≤ MOST_RECORD_CHARACTERS }
-        ensures put { OnOk result (self.new ≡ recorded (Put position line) self.old) }
-        ensures refused { refused_as result ≡ change_refusal (Put position line) self.old.records }
+    pub fn put_at(&mut self, position: u64, line: &[u8]) -> Result<(), Stop<SetFull>>
+        requires short { length line.now ≤ MOST_RECORD_CHARACTERS }
+        requires printable { IsLine line.now }
+        ensures put { OnOk result (self.new ≡ recorded (Put position line.now) self.old) }
+        ensures refused { refused_as result ≡ change_refusal (Put position line.now) self.old.records }
         ensures unchanged { OnErr result (self.new ≡ self.old) }
         ensures memory { IsErrOf result Stop.Memory → length self.old.records ≤ position }
     {
         self.records.put_at(position, line)
     }
 
-    /// Puts a record of at most 1,024 characters behind all others.
+    /// Puts a record of at most 1,024 printable characters behind all others.
     ///
     /// # Errors
     ///
     /// `SetFull` where there are 100,000 records, whatever memory there is; `Memory` where a growth was refused. The set is
     /// then unchanged.
-    pub fn append(&mut self, line: Line) -> Result<(), Stop<SetFull>>
-        requires short { length line ≤ MOST_RECORD_CHARACTERS }
-        ensures added { OnOk result (self.new ≡ recorded (Add line) self.old) }
-        ensures refused { refused_as result ≡ change_refusal (Add line) self.old.records }
+    pub fn append(&mut self, line: &[u8]) -> Result<(), Stop<SetFull>>
+        requires short { length line.now ≤ MOST_RECORD_CHARACTERS }
+        requires printable { IsLine line.now }
+        ensures added { OnOk result (self.new ≡ recorded (Add line.now) self.old) }
+        ensures refused { refused_as result ≡ change_refusal (Add line.now) self.old.records }
         ensures unchanged { OnErr result (self.new ≡ self.old) }
     {
         self.records.add(line)

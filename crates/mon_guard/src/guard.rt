@@ -364,10 +364,10 @@ impl Guard {
         }
     }
 
-    /// Writes a record of at most 1,024 characters to the set of a name, where w is granted on it. On a set of mode SEQ it is
-    /// written at the position, counted from 0: what stood there and behind it is gone, and the position is then behind the
-    /// record. On one of mode APPEND it is put behind all records, and the position stays. Where 100,000 records stand before
-    /// it it is `Full`, and nothing changes.
+    /// Writes a record of at most 1,024 printable characters to the set of a name, where w is granted on it. On a set of
+    /// mode SEQ it is written at the position, counted from 0: what stood there and behind it is gone, and the position is
+    /// then behind the record. On one of mode APPEND it is put behind all records, and the position stays. Where 100,000
+    /// records stand before it it is `Full`, and nothing changes.
     ///
     /// # Errors
     ///
@@ -379,17 +379,19 @@ impl Guard {
         catalogue: &mut Catalogue,
         name: &Name,
         position: u64,
-        line: Line,
+        line: &[u8],
     ) -> Result<Answered, AllocError>
-        requires short { length line ≤ MOST_RECORD_CHARACTERS }
+        requires short { length line.now ≤ MOST_RECORD_CHARACTERS }
+        requires printable { IsLine line.now }
         requires fit { CacheFits self.old catalogue.old }
-        ensures answer { IfOk result (λ answered. answered ≡ told position (acted account.now (Write position line) catalogue.old name.now)) }
-        ensures sets { OnOk result (catalogue.new ≡ changed name.now (acted account.now (Write position line) catalogue.old name.now).change catalogue.old) }
+        ensures answer { IfOk result (λ answered. answered ≡ told position (acted account.now (Write position line.now) catalogue.old name.now)) }
+        ensures sets { OnOk result
+            (catalogue.new ≡ changed name.now (acted account.now (Write position line.now) catalogue.old name.now).change catalogue.old) }
         ensures unchanged { OnErr result (catalogue.new ≡ catalogue.old) }
         ensures fit { CacheFits self.new catalogue.new }
         ensures rows { Begins self.old self.new }
         ensures rows_stay { OnErr result (self.new ≡ self.old) }
-        ensures memory { OnErr result ((acted account.now (Write position line) catalogue.old name.now).answer ≡ Answer.Done) }
+        ensures memory { OnErr result ((acted account.now (Write position line.now) catalogue.old name.now).answer ≡ Answer.Done) }
     {
         let lookup = self.cache.lookup(account, catalogue, name);
         let Some(set) = catalogue.find_mut_near(lookup.set, name) else {
@@ -531,13 +533,14 @@ fn write_by(
     decision: Decision,
     set: &mut DataSet,
     position: u64,
-    line: Line,
+    line: &[u8],
 ) -> Result<Answered, AllocError>
-    requires short { length line ≤ MOST_RECORD_CHARACTERS }
-    ensures answer { IfOk result (λ answered. answered ≡ told position (acted_by decision (Write position line) set.old)) }
-    ensures set { OnOk result (set.new ≡ left (acted_by decision (Write position line) set.old).change set.old) }
+    requires short { length line.now ≤ MOST_RECORD_CHARACTERS }
+    requires printable { IsLine line.now }
+    ensures answer { IfOk result (λ answered. answered ≡ told position (acted_by decision (Write position line.now) set.old)) }
+    ensures set { OnOk result (set.new ≡ left (acted_by decision (Write position line.now) set.old).change set.old) }
     ensures unchanged { OnErr result (set.new ≡ set.old) }
-    ensures memory { OnErr result ((acted_by decision (Write position line) set.old).answer ≡ Answer.Done) }
+    ensures memory { OnErr result ((acted_by decision (Write position line.now) set.old).answer ≡ Answer.Done) }
 {
     match decision {
         Decision::Granted => write_to(set, position, line),
@@ -546,12 +549,13 @@ fn write_by(
 }
 
 // Writes a record by the set's mode.
-fn write_to(set: &mut DataSet, position: u64, line: Line) -> Result<Answered, AllocError>
-    requires short { length line ≤ MOST_RECORD_CHARACTERS }
-    ensures answer { IfOk result (λ answered. answered ≡ told position (done (Write position line) set.old)) }
-    ensures set { OnOk result (set.new ≡ left (done (Write position line) set.old).change set.old) }
+fn write_to(set: &mut DataSet, position: u64, line: &[u8]) -> Result<Answered, AllocError>
+    requires short { length line.now ≤ MOST_RECORD_CHARACTERS }
+    requires printable { IsLine line.now }
+    ensures answer { IfOk result (λ answered. answered ≡ told position (done (Write position line.now) set.old)) }
+    ensures set { OnOk result (set.new ≡ left (done (Write position line.now) set.old).change set.old) }
     ensures unchanged { OnErr result (set.new ≡ set.old) }
-    ensures memory { OnErr result ((done (Write position line) set.old).answer ≡ Answer.Done) }
+    ensures memory { OnErr result ((done (Write position line.now) set.old).answer ≡ Answer.Done) }
 {
     match set.mode {
         Mode::Seq => put_at(set, position, line),
@@ -561,12 +565,13 @@ fn write_to(set: &mut DataSet, position: u64, line: Line) -> Result<Answered, Al
 
 // Puts a record at a position, which is then behind it.
 #[inline(always)]
-fn put_at(set: &mut DataSet, position: u64, line: Line) -> Result<Answered, AllocError>
-    requires short { length line ≤ MOST_RECORD_CHARACTERS }
-    ensures answer { IfOk result (λ answered. answered ≡ told position (changing (Put position line) set.old.records)) }
-    ensures set { OnOk result (set.new ≡ left (changing (Put position line) set.old.records).change set.old) }
+fn put_at(set: &mut DataSet, position: u64, line: &[u8]) -> Result<Answered, AllocError>
+    requires short { length line.now ≤ MOST_RECORD_CHARACTERS }
+    requires printable { IsLine line.now }
+    ensures answer { IfOk result (λ answered. answered ≡ told position (changing (Put position line.now) set.old.records)) }
+    ensures set { OnOk result (set.new ≡ left (changing (Put position line.now) set.old.records).change set.old) }
     ensures unchanged { OnErr result (set.new ≡ set.old) }
-    ensures memory { OnErr result ((changing (Put position line) set.old.records).answer ≡ Answer.Done) }
+    ensures memory { OnErr result ((changing (Put position line.now) set.old.records).answer ≡ Answer.Done) }
 {
     match set.put_at(position, line) {
         Ok(()) => Ok(Answered::done(set.records.len())),
@@ -577,12 +582,13 @@ fn put_at(set: &mut DataSet, position: u64, line: Line) -> Result<Answered, Allo
 
 // Puts a record behind all others; the position stays.
 #[inline(always)]
-fn append(set: &mut DataSet, position: u64, line: Line) -> Result<Answered, AllocError>
-    requires short { length line ≤ MOST_RECORD_CHARACTERS }
-    ensures answer { IfOk result (λ answered. answered ≡ told position (changing (Add line) set.old.records)) }
-    ensures set { OnOk result (set.new ≡ left (changing (Add line) set.old.records).change set.old) }
+fn append(set: &mut DataSet, position: u64, line: &[u8]) -> Result<Answered, AllocError>
+    requires short { length line.now ≤ MOST_RECORD_CHARACTERS }
+    requires printable { IsLine line.now }
+    ensures answer { IfOk result (λ answered. answered ≡ told position (changing (Add line.now) set.old.records)) }
+    ensures set { OnOk result (set.new ≡ left (changing (Add line.now) set.old.records).change set.old) }
     ensures unchanged { OnErr result (set.new ≡ set.old) }
-    ensures memory { OnErr result ((changing (Add line) set.old.records).answer ≡ Answer.Done) }
+    ensures memory { OnErr result ((changing (Add line.now) set.old.records).answer ≡ Answer.Done) }
 {
     match set.append(line) {
         Ok(()) => Ok(Answered::done(position)),

@@ -1,5 +1,6 @@
 //! The service that answers a program's requests from units and data sets.
 ghost use Rattle.std.specs.Prelude.{◌≡◌, ◌≤◌, length, take, IfOk, OnOk, OnErr};
+ghost use Rattle.mon_text.specs.Lines.{IsLine};
 ghost use Rattle.mon_guard.specs.Cache.{CacheFits};
 ghost use Rattle.mon_unit.specs.Serving.{noted};
 ghost use Rattle.mon_unit.specs.Memory.{MayGrow};
@@ -29,7 +30,7 @@ pub struct UnitService<'a> {
 }
 
 impl Service for UnitService<'_> {
-    ghost use Rattle.interaction.specs.Fitting.{Fits, IsShort};
+    ghost use Rattle.interaction.specs.Fitting.{Fits, IsShort, writing};
     ghost use Rattle.mon_unit.specs.Lent.{UnitAnswers, reach_of};
     ghost use Rattle.mon_guard.specs.Cache.{CacheFits};
 
@@ -49,33 +50,28 @@ impl Service for UnitService<'_> {
         let statement = request.statement;
         match &request.act {
             Act::Read(unit) => self.read(statement, *unit),
-            Act::Write(unit, line) => {
-                let line = line.copy(self.alloc)?;
-                self.write(statement, *unit, line)
-            }
+            Act::Write(unit, line) => self.write_line(statement, *unit, line.as_bytes()),
             Act::Endfile(unit) => self.end(statement, *unit),
             Act::Rewind(unit) => self.rewind(statement, *unit),
         }
     }
 
-    fn ask_once(&mut self, request: Request) -> Result<Answer, AllocError>
+    fn write(&mut self, statement: u64, unit: u64, line: &[u8]) -> Result<Answer, AllocError>
         requires ready { CacheFits self.old.guard.now self.old.catalogue.now }
-        requires short { IsShort request.act }
-        ensures answered { IfOk result (λ answer. UnitAnswers self.old request answer self.new) }
-        ensures fits { IfOk result (λ answer. Fits request answer) }
+        requires printable { IsLine line.now }
+        requires short { length line.now ≤ 1024 }
+        ensures answered { IfOk result (λ answer. UnitAnswers self.old (writing statement unit line.now) answer self.new) }
+        ensures fits { IfOk result (λ answer. Fits (writing statement unit line.now) answer) }
         ensures unchanged { OnErr result (self.new ≡ self.old) }
         ensures ready { CacheFits self.new.guard.now self.new.catalogue.now }
-        ensures memory { OnErr result (MayGrow self.old.account.now (reach_of self.old) request) }
+        ensures memory { OnErr result (MayGrow self.old.account.now (reach_of self.old) (writing statement unit line.now)) }
     {
-        let Request { statement, act } = request;
-        match act {
-            Act::Write(unit, line) => self.write(statement, unit, line),
-            act => self.ask(&Request { statement, act }),
-        }
+        self.write_line(statement, unit, line)
     }
 }
 
 impl UnitService<'_> {
+    ghost use Rattle.interaction.specs.Fitting.{writing};
     ghost use Rattle.mon_unit.specs.Lent.{UnitAnswers, reach_of, left_with};
 
     fn read(&mut self, statement: u64, unit: u64) -> Result<Answer, AllocError>
@@ -116,13 +112,14 @@ impl UnitService<'_> {
         }
     }
 
-    fn write(&mut self, statement: u64, unit: u64, line: Line) -> Result<Answer, AllocError>
-        requires short { length line ≤ MOST_RECORD_CHARACTERS }
+    fn write_line(&mut self, statement: u64, unit: u64, line: &[u8]) -> Result<Answer, AllocError>
+        requires printable { IsLine line.now }
+        requires short { length line.now ≤ MOST_RECORD_CHARACTERS }
         requires fit { CacheFits self.old.guard.now self.old.catalogue.now }
-        ensures answered { IfOk result (λ answer. UnitAnswers self.old (asked statement (Act.Write unit line)) answer self.new) }
+        ensures answered { IfOk result (λ answer. UnitAnswers self.old (writing statement unit line.now) answer self.new) }
         ensures unchanged { OnErr result (self.new ≡ self.old) }
         ensures fit { CacheFits self.new.guard.now self.new.catalogue.now }
-        ensures memory { OnErr result (MayGrow self.old.account.now (reach_of self.old) (asked statement (Act.Write unit line))) }
+        ensures memory { OnErr result (MayGrow self.old.account.now (reach_of self.old) (writing statement unit line.now)) }
     {
         let attempt = Attempt {
             statement,

@@ -3,6 +3,7 @@ ghost use Rattle.std.specs.Prelude.{◌≡◌, ◌<◌, ◌-◌, ◌^◌, [], �
 ghost use Rattle.std.specs.List.{list_any};
 ghost use Rattle.std.specs.Option.{option_copied};
 ghost use Rattle.std.specs.Result.{result_err};
+ghost use Rattle.mon_text.specs.Lines.{IsLine};
 ghost use Rattle.mon_guard.specs.Acting.{read_at};
 ghost use Rattle.mon_unit.specs.Tying.{new_units, tie_refusal, tied_to, first_target, with_tie, share, meets, is_set};
 ghost use Rattle.mon_unit.specs.Serving.{moved, noted, with_note};
@@ -166,12 +167,13 @@ impl Units {
     }
 
     // Adds a line to the spool.
-    pub(crate) fn put_spool(&mut self, line: Line) -> Result<Answer, AllocError>
+    pub(crate) fn put_spool(&mut self, line: &[u8]) -> Result<Answer, AllocError>
+        requires printable { IsLine line.now }
         ensures answer { IfOk result (λ answer. answer ≡ Answer.Done) }
-        ensures spooled { OnOk result (self.new ≡ record self.old { spool = self.old.spool ++ line ∷ [] }) }
+        ensures spooled { OnOk result (self.new ≡ record self.old { spool = self.old.spool ++ line.now ∷ [] }) }
         ensures unchanged { OnErr result (self.new ≡ self.old) }
     {
-        self.spool.push(line.as_bytes())?;
+        self.spool.push(line)?;
         Ok(Answer::Done)
     }
 

@@ -99,7 +99,11 @@ pub fn read_format(text: &[u8]) -> Option<Format>
 }
 
 /// A blank and some characters as a line.
-fn after_blank(alloc: Global, piece: &[u8]) -> Result<Line, AllocError>
+///
+/// # Errors
+///
+/// Where a growth was refused.
+pub fn after_blank(alloc: Global, piece: &[u8]) -> Result<Line, AllocError>
     requires { IsLine piece.now }
     ensures { IfOk result (λ line. line ≡ 32 ∷ piece.now) }
 {
@@ -128,15 +132,20 @@ impl Format {
         self.characters
     }
 
-    /// The record that begins at a place of a text.
-    ///
-    /// # Errors
-    ///
-    /// Where a growth was refused.
-    pub fn record(&self, alloc: Global, text: &Text, from: usize) -> Result<Line, AllocError>
+    /// Whether a blank stands before each record.
+    pub fn has_blank(&self) -> bool
+        ensures { result ≡ self.now.blank }
+    {
+        self.blank
+    }
+
+    /// The characters of a text that go into the record which begins at a place of it.
+    #[tactic(auto, using(sno_text::proofs::Printable::line_of_take, sno_text::proofs::Printable::line_of_drop))]
+    pub fn piece<'a>(&self, text: &'a Text, from: usize) -> &'a [u8]
         requires { from ≤ length text.now }
-        ensures laid_out { IfOk result (λ line. line ≡ laid_out self.now (take self.now.characters (drop from text.now))) }
-        ensures short { IfOk result (λ line. length line ≤ 1024) }
+        ensures value { result.now ≡ take self.now.characters (drop from text.now) }
+        ensures printable { IsLine result.now }
+        ensures short { length (laid_out self.now result.now) ≤ 1024 }
     {
         let left = text.len() - from;
         let taken = if left as u64 <= self.characters {
@@ -144,10 +153,6 @@ impl Format {
         } else {
             self.characters as usize
         };
-        if self.blank {
-            after_blank(alloc, &text.as_bytes()[from..from + taken])
-        } else {
-            text.line(alloc, from, from + taken)
-        }
+        &text.as_bytes()[from..from + taken]
     }
 }

@@ -1,7 +1,7 @@
 //! Laws of records. Each is the contract of a function that does nothing.
 ghost use Rattle.sno_declarations.specs.Laws.{RecordsFollow, RecordsFit};
 
-/// The records that `Format::record` takes one after another are those of the text.
+/// The records whose pieces `Format::piece` takes one after another are those of the text.
 pub fn records_follow()
     ensures { RecordsFollow }
 {}

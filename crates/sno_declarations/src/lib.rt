@@ -13,5 +13,5 @@ pub use argument::{input_in, name_in, output_in, unit_in};
 pub use association::{Input, Output};
 pub use binding::Bindings;
 pub use definition::{Definition, Function, definition_in};
-pub use format::{Format, read_format};
+pub use format::{Format, after_blank, read_format};
 pub use prototype::{Names, Prototype, read_prototype};

@@ -1,11 +1,12 @@
 //! A variable used, and assigned a value.
 ghost use Rattle.std.specs.Prelude.{◌≡◌, ◌≤◌, length, IfOk, OnErr};
+ghost use Rattle.mon_text.specs.Lines.{IsLine};
 ghost use Rattle.interaction.specs.Interactions.{ask};
 ghost use Rattle.sno_value.specs.Values.{text_of};
 ghost use Rattle.sno_value.specs.declared.value.Value.TheVariants as value;
 ghost use Rattle.interaction.specs.Asking.{RunsTo, Executes};
 ghost use Rattle.interaction.specs.declared.request.Act.TheVariants.{Write as Writing};
-ghost use Rattle.sno_declarations.specs.Formats.{records};
+ghost use Rattle.sno_declarations.specs.Formats.{laid_out, records};
 ghost use Rattle.sno_variables.specs.Variables.{Reads};
 ghost use Rattle.sno_store.specs.States.{kept_of};
 ghost use Rattle.sno_state.specs.Asking.{request};
@@ -15,7 +16,7 @@ ghost use Rattle.sno_state.specs.inner.Parts.{stored, write_text, written_on, wr
 use interaction::{Act, Answer, Request, Service};
 use mon_text::Line;
 use sno_declarations::laws::records_follow;
-use sno_declarations::{Input, Output};
+use sno_declarations::{Input, Output, after_blank};
 use sno_semantics::{Evaluated, Halt};
 use sno_store::{Found, Store};
 use sno_text::{Fault, Named, Text};
@@ -94,24 +95,44 @@ pub fn used<S: Service>(
 /// Writes a record, and tells the answer.
 fn write<S: Service>(
     unit: u64,
-    line: Line,
+    line: &[u8],
     state: &Store,
     service: &mut S,
 ) -> Result<Answer, AllocError>
     requires ready { S.ready service.old }
-    requires short { length line ≤ 1024 }
-    ensures held { IfOk result (λ answer. RunsTo S.answers (ask (request (Writing unit line) state.now)) service.old answer service.new) }
+    requires printable { IsLine line.now }
+    requires short { length line.now ≤ 1024 }
+    ensures held { IfOk result (λ answer. RunsTo S.answers (ask (request (Writing unit line.now) state.now)) service.old answer service.new) }
     ensures cut { OnErr result (service.new ≡ service.old) }
     ensures ready { S.ready service.new }
 {
-    let request = Request {
-        statement: state.statement(),
-        act: Act::Write(unit, line),
-    };
-    match service.ask_once(request) {
+    match service.write(state.statement(), unit, line) {
         Ok(answer) => Ok(answer),
         Err(e) => Err(e),
     }
+}
+
+/// Writes a piece of a text as a record: from where it stands, or behind a blank.
+fn write_piece<S: Service>(
+    alloc: Global,
+    output: Output,
+    piece: &[u8],
+    state: &Store,
+    service: &mut S,
+) -> Result<Answer, AllocError>
+    requires ready { S.ready service.old }
+    requires printable { IsLine piece.now }
+    requires short { length (laid_out output.format piece.now) ≤ 1024 }
+    ensures held { IfOk result (λ answer.
+        RunsTo S.answers (ask (request (Writing output.unit (laid_out output.format piece.now)) state.now)) service.old answer service.new) }
+    ensures cut { OnErr result (service.new ≡ service.old) }
+    ensures ready { S.ready service.new }
+{
+    if output.format.has_blank() {
+        let line = after_blank(alloc, piece)?;
+        return write(output.unit, line.as_bytes(), state, service);
+    }
+    write(output.unit, piece, state, service)
 }
 
 /// What writing the records of a value comes to.
@@ -153,8 +174,8 @@ fn write_records<S: Service>(
     let characters = output.format.characters() as usize;
     let mut from = 0;
     loop {
-        let line = output.format.record(alloc, text, from)?;
-        match write(output.unit, line, state, service)? {
+        let piece = output.format.piece(text, from);
+        match write_piece(alloc, output, piece, state, service)? {
             Answer::Done => {}
             _ => return Ok(WriteEnd::Fails),
         }

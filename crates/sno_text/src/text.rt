@@ -1,7 +1,7 @@
 //! Texts, which are shared.
 ghost use Rattle.std.specs.Prelude.{◌≡◌, ◌==◌, ◌<◌, ◌≤◌, ◌+◌, ◌*◌, ◌++◌, [], length, take, drop, nat_eq, refl, vec_len, vec_capacity, Some, IfOk, OnErr};
 ghost use Rattle.std.specs.Option.{MatchOption};
-ghost use Rattle.std.specs.List.{slice_range, repeat};
+ghost use Rattle.std.specs.List.{repeat};
 ghost use Rattle.std.specs.Fmt.{signed_decimal};
 ghost use Rattle.std.specs.Ordering.{nat_cmp};
 ghost use Rattle.std.specs.Hash as fed;
@@ -304,21 +304,6 @@ impl Text {
             return self.copy();
         }
         Text::of_slice(alloc, kept)
-    }
-
-    /// The characters from one place up to another, as a line.
-    ///
-    /// # Errors
-    ///
-    /// Where a growth was refused.
-    pub fn line(&self, alloc: Global, from: usize, to: usize) -> Result<Line, AllocError>
-        requires ordered { from ≤ to }
-        requires within { to ≤ length self.now }
-        ensures value { IfOk result (λ line. line ≡ slice_range self.now from to) }
-        ensures memory { OnErr result (from < to) }
-    {
-        let room = Vec::with_capacity(alloc, to - from)?;
-        Ok(Line::in_room(room, &self.as_bytes()[from..to]))
     }
 }
 

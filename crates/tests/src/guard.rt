@@ -107,7 +107,7 @@ fn written(alloc: Global, desk: &mut Desk, account: &Account) -> Option<Answered
     match read_line(alloc, b"X", 1_024) {
         Ok(line) => desk
             .guard
-            .write(account, &mut desk.catalogue, &desk.name, 1, line)
+            .write(account, &mut desk.catalogue, &desk.name, 1, line.as_bytes())
             .ok(),
         Err(_) => None,
     }

@@ -6,8 +6,8 @@ use Rattle.sno_state.specs.Using.{write_all}
 use Rattle.sno_state.proofs.using.write_records.Given as goal
 
 -- whatever follows for the records that are left follows for all
-abbrev pub invariant-loop-line : goal.invariant-loop-line
-invariant-loop-line g l =
+abbrev pub invariant-loop-from : goal.invariant-loop-from
+invariant-loop-from g l =
     let answers = g.S.Service.answers in
     record {
       within : l.from ≤ length l.text;
@@ -18,5 +18,5 @@ invariant-loop-line g l =
       ready : g.S.Service.ready l.service;
     }
 
-abbrev pub decreases-loop-line : goal.decreases-loop-line
-decreases-loop-line g l = length l.text - l.from
+abbrev pub decreases-loop-from : goal.decreases-loop-from
+decreases-loop-from g l = length l.text - l.from
