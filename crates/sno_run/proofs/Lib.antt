@@ -10,3 +10,4 @@ pub mod Begins
 pub mod Assigning
 pub mod Splicing
 pub mod Staying
+pub mod Coming
