@@ -6,3 +6,4 @@ pub mod Writing
 pub mod OnVariable
 pub mod Looking
 pub mod Counted
+pub mod Adding

@@ -3,7 +3,7 @@
 //! A variable that is used or assigned to may read or write records; a match uses and assigns to variables meanwhile. All
 //! of it is told without the service: the definitions say what is asked, for whatever is answered.
 //!
-//! A program stands here with the code of its statements (`compiled`), and with what of it is done at once (`fast_path`).
+//! A program stands here with the code of its statements (`compiled`), and with what of it is done at once (`fast_path`, `sums`).
 #![tactic(auto)]
 
 mod calling;
@@ -16,6 +16,7 @@ pub mod laws;
 mod matching;
 mod primitives;
 pub mod resting;
+pub mod sums;
 mod using;
 
 pub use calling::{MOST_CALLS, begin, enter};
