@@ -8,15 +8,17 @@ from trying import NO_WORDS, PARTS, SITE, Trying, proved, run
 
 LISTING = os.environ.get('LISTING') or proved('listing')
 PROGRAMS = {'listing': LISTING, 'site': SITE, **({'parts': PARTS} if os.path.exists(PARTS) else {})}
-COMMANDS = {'site': ('init', 'run', 'status', 'catalogue', 'verify', 'put', 'restore', 'accounts', 'adduser', 'groups', 'deluser', 'limits', 'deck',
-                     'check', 'submit', 'queue'), 'parts': ('split', 'join')}
+COMMANDS = {'site': ('init', 'run', 'status', 'catalogue', 'verify', 'put', 'restore', 'accounts', 'adduser', 'groups', 'deluser', 'limits', 'archive',
+                     'prune', 'deck', 'check', 'submit', 'queue'), 'parts': ('split', 'join')}
 NOTHING = {
     'site': (NO_WORDS, ['--bogus', '--help'], ['go'], ['run'], ['run', 'a', 'b'], ['run', '--bogus', 'a'], ['init'], ['init', 'a'],
              ['init', 'a', '--accounts', 'b'],
              ['init', 'a', '--accounts', 'b', '--users', 'c', '--demonstration'], ['check', 'a'], ['check', 'a', '--account', '9X'], ['verify'],
              ['verify', 'a', 'b'], ['put', 'a'], ['restore', 'a', 'A'], ['restore', 'a', '9X', '--at', '0'], ['adduser', 'a', 'anna'],
              ['adduser', 'a', 'anna', 'x'], ['groups', 'a', 'anna'], ['catalogue', 'a', '--at', 'x'],
-             ['init', 'a', '--rounds', 'b', '--limits', 'c'], ['init', 'a', '--rounds', 'b', '--demonstration'], ['deluser', 'a'], ['deck', 'a'], ['deck', 'a', 'x'], ['submit', 'a', 'b'], ['queue', 'a']),
+             ['init', 'a', '--rounds', 'b', '--limits', 'c'], ['init', 'a', '--rounds', 'b', '--demonstration'], ['deluser', 'a'], ['deck', 'a'], ['deck', 'a', 'x'], ['archive', 'a', '--keep', 'x'],
+             ['archive', 'a', '--days', '0'], ['archive', 'a', '--keep', '1', '--days', '1'], ['prune', 'a'], ['prune', 'a', '--days', 'x'],
+             ['submit', 'a', 'b'], ['queue', 'a']),
     'listing': (['--bogus'], ['a', 'b'], ['--access', '--account', '9X'], ['--text'], ['--account', 'lisa'], ['--text', '--account', '9X'],
                 ['--text', '--access', '--account', 'lisa'], ['--text', '--account', 'lisa', '--csv'], ['--set', 'A']),
     'parts': (NO_WORDS, ['--bogus', '--help'], ['split'], ['join', 'a', 'b']),

@@ -6,7 +6,7 @@ pub mod making;
 pub mod moment;
 pub mod operating;
 
-pub use archiving::archive;
+pub use archiving::{Kept, archive};
 pub use making::{Init, Sources, make_site};
 pub use moment::{Moment, read_moment};
 pub use operating::{

@@ -45,6 +45,7 @@ fn wrong_accounts(line: u64, fault: TableFault) -> Wrong {
 fn wrong_limits(line: u64, fault: LimitsFault) -> Wrong {
     match fault {
         LimitsFault::BadLine => Wrong::Line(line, "not a limit and a number"),
+        LimitsFault::WrongDays => Wrong::Line(line, "days are 1 to 36,500"),
         LimitsFault::Twice => Wrong::Line(line, "a line before says this"),
         LimitsFault::Missing(bound) => Wrong::Missing(bound_name(bound)),
     }

@@ -11,7 +11,7 @@ use ledger_acts::{
 };
 use ledger_folder::{Fault, Place};
 use ledger_opening::{Site, open_site, progress_there, runner_of};
-use ledger_service::{Report, check, refuse_full, run_site, standing_of, verify};
+use ledger_service::{Report, check, prune, refuse_full, run_site, standing_of, verify};
 use ledger_users::{check_file, queue_of, submit_file};
 use mon_text::Name;
 use options::{Act, Asked, no_text, read_asked};
@@ -24,8 +24,8 @@ use std::rt::Env;
 use std::time::Duration;
 use std::{env, io, thread};
 use telling::{
-    tell_at_work, tell_checked, tell_done, tell_fault, tell_run, tell_standing, tell_text,
-    tell_verified, tell_words,
+    tell_at_work, tell_checked, tell_done, tell_fault, tell_pruned, tell_run, tell_standing,
+    tell_text, tell_verified, tell_words,
 };
 
 /// So many submissions of a run are refused for want of room.
@@ -88,7 +88,7 @@ fn check_new(rt: &HostRuntime, top: &str) -> Result<(), Fault> {
 // What is done with a site open, with its lock held: whoever opens a ledger brings it to the disk.
 fn serve_locked(rt: &HostRuntime, top: String, act: Act) -> u8 {
     let attempts = match &act {
-        Act::Status => STATUS_ATTEMPTS,
+        Act::Status(_) => STATUS_ATTEMPTS,
         _ => LOCK_ATTEMPTS,
     };
     match lock(rt, &top, attempts) {
@@ -99,7 +99,7 @@ fn serve_locked(rt: &HostRuntime, top: String, act: Act) -> u8 {
             }
             Err(fault) => tell_fault(rt, &fault),
         },
-        Err(Fault::Held(_)) if matches!(act, Act::Status) => serve_at_work(rt, top),
+        Err(Fault::Held(_)) if matches!(act, Act::Status(_)) => serve_at_work(rt, top),
         Err(fault) => tell_fault(rt, &fault),
     }
 }
@@ -115,7 +115,7 @@ fn serve_at_work(rt: &HostRuntime, top: String) -> u8 {
 
 fn serve_open(rt: &HostRuntime, site: &mut Site<HostRuntime>, act: Act) -> u8 {
     match act {
-        Act::Status => tell_standing(rt, standing_of(site)),
+        Act::Status(with_sizes) => tell_standing(rt, standing_of(site, with_sizes)),
         Act::Catalogue(at) => tell_text(rt, catalogue_of(site, at)),
         Act::Put(put) => tell_done(rt, put_sets(site, &put)),
         Act::Restore(restore) => tell_done(rt, restore_set(site, &restore)),
@@ -125,7 +125,8 @@ fn serve_open(rt: &HostRuntime, site: &mut Site<HostRuntime>, act: Act) -> u8 {
         Act::Groups(groups) => tell_done(rt, set_groups(site, &groups)),
         Act::Limits(Some(file)) => tell_done(rt, set_limits(site, &file)),
         Act::Limits(None) => tell_text(rt, limits_of(site)),
-        Act::Archive(keep) => tell_text(rt, archive(site, keep)),
+        Act::Archive(kept) => tell_text(rt, archive(site, kept)),
+        Act::Prune(days) => tell_pruned(rt, prune(site, days)),
         Act::Deck(number) => tell_text(rt, deck_of(site, number)),
     }
 }

@@ -1,7 +1,8 @@
 //! The words of the command line, and what they ask.
 use clap::error::ErrorKind;
 use clap::{Arg, ArgAction, ArgMatches, Command, Error};
-use ledger_acts::{Init, Moment, NewGroups, NewUser, Put, Restore, Sources, read_moment};
+use ledger_acts::{Init, Kept, Moment, NewGroups, NewUser, Put, Restore, Sources, read_moment};
+use ledger_tables::MOST_DAYS;
 use ledger_users::Own;
 use mon_text::{Name, read_count, read_name};
 use std::alloc::{AllocError, Global};
@@ -32,8 +33,8 @@ pub enum Asked {
 /// What is done with a site open.
 #[derive(Drop)]
 pub enum Act {
-    /// What stands, and what is wrong.
-    Status,
+    /// What stands, and what is wrong; with the sizes of what is kept or without.
+    Status(bool),
     /// The data sets as they stand, or as they were at a moment.
     Catalogue(Option<Moment>),
     /// To put the data sets of a file in the place of all, or one of them in the place of the one of its name.
@@ -50,8 +51,10 @@ pub enum Act {
     Groups(NewGroups),
     /// To put the limits of a file in the place of those that stand, or to print these.
     Limits(Option<String>),
-    /// To put commits that no run reads apart, but for so many of the last.
-    Archive(u64),
+    /// To put commits that no run reads apart, but for some of the last.
+    Archive(Kept),
+    /// To remove answers that are older than so many days.
+    Prune(u64),
     /// The deck of the submissions that ran, between two acts of the operator, with the one of this number.
     Deck(u64),
 }
@@ -93,7 +96,8 @@ fn read_act(alloc: Global, name: &str, of: &ArgMatches) -> Result<Act, Error> {
         "limits" => Ok(Act::Limits(maybe(alloc, of, "FILE")?)),
         "archive" => read_archive(alloc, of),
         "deck" => Ok(Act::Deck(number_in(alloc, word(of, "N"))?)),
-        "status" => Ok(Act::Status),
+        "prune" => Ok(Act::Prune(days_in(alloc, word(of, "days"))?)),
+        "status" => Ok(Act::Status(of.get_flag("sizes"))),
         "accounts" => Ok(Act::Accounts),
         "groups" => read_groups(alloc, of),
         _ => read_catalogue(alloc, of),
@@ -188,9 +192,11 @@ fn read_new_user(alloc: Global, of: &ArgMatches) -> Result<Act, Error> {
 }
 
 fn read_archive(alloc: Global, of: &ArgMatches) -> Result<Act, Error> {
-    match of.get_str("keep") {
-        Some(word) => Ok(Act::Archive(number_in(alloc, word)?)),
-        None => Ok(Act::Archive(KEPT)),
+    match (of.get_str("keep"), of.get_str("days")) {
+        (Some(_), Some(_)) => Err(both_kept(alloc)),
+        (Some(word), None) => Ok(Act::Archive(Kept::Last(number_in(alloc, word)?))),
+        (None, Some(word)) => Ok(Act::Archive(Kept::Days(days_in(alloc, word)?))),
+        (None, None) => Ok(Act::Archive(Kept::Last(KEPT))),
     }
 }
 
@@ -218,6 +224,13 @@ fn number_in(alloc: Global, word: &str) -> Result<u64, Error> {
     match read_count(word.as_bytes()) {
         Ok(number) => Ok(number),
         Err(_) => Err(no_number(alloc)),
+    }
+}
+
+fn days_in(alloc: Global, word: &str) -> Result<u64, Error> {
+    match read_count(word.as_bytes()) {
+        Ok(days) if 0 < days && days <= MOST_DAYS => Ok(days),
+        _ => Err(no_days(alloc)),
     }
 }
 
@@ -266,6 +279,22 @@ fn no_name(alloc: Global) -> Error {
 
 fn no_number(alloc: Global) -> Error {
     refusal(alloc, ErrorKind::ValueValidation, "a number is wanted")
+}
+
+fn no_days(alloc: Global) -> Error {
+    refusal(
+        alloc,
+        ErrorKind::ValueValidation,
+        "a number of days is wanted, 1 to 36,500",
+    )
+}
+
+fn both_kept(alloc: Global) -> Error {
+    refusal(
+        alloc,
+        ErrorKind::ArgumentConflict,
+        "one of --keep and --days is wanted, and not both",
+    )
 }
 
 fn no_moment(alloc: Global) -> Error {
@@ -338,6 +367,7 @@ fn add_operating<'a>(program: Command<'a>, alloc: Global) -> Result<Command<'a>,
     let program = add_command(program, del_user_command(alloc))?;
     let program = add_command(program, limits_command(alloc))?;
     let program = add_command(program, archive_command(alloc))?;
+    let program = add_command(program, prune_command(alloc))?;
     let program = add_command(program, deck_command(alloc))?;
     add_using(program, alloc)
 }
@@ -364,11 +394,16 @@ fn of_folder<'a>(alloc: Global, name: &'a str, about: &'a str) -> Result<Command
 }
 
 fn status_command<'a>(alloc: Global) -> Result<Command<'a>, AllocError> {
-    of_folder(
+    let command = of_folder(
         alloc,
         "status",
         "Tells what stands, and what is not as it must be",
-    )
+    )?;
+    command.arg(flag(
+        alloc,
+        "sizes",
+        "How many bytes there are of what is kept, too",
+    ))
 }
 
 fn verify_command<'a>(alloc: Global) -> Result<Command<'a>, AllocError> {
@@ -485,7 +520,15 @@ fn del_user_command<'a>(alloc: Global) -> Result<Command<'a>, AllocError> {
 fn archive_command<'a>(alloc: Global) -> Result<Command<'a>, AllocError> {
     let command = of_folder(alloc, "archive", "Puts commits that no run reads apart")?;
     let help = "So many of the last commits stay where they are; 1,000 where it is not given";
-    command.arg(named(alloc, "keep", help).value_name("N"))
+    let command = command.arg(named(alloc, "keep", help).value_name("N"))?;
+    let help = "The commits of so many days stay where they are";
+    command.arg(named(alloc, "days", help).value_name("N"))
+}
+
+fn prune_command<'a>(alloc: Global) -> Result<Command<'a>, AllocError> {
+    let command = of_folder(alloc, "prune", "Removes old answers")?;
+    let help = "Those of so many days stay";
+    command.arg(named(alloc, "days", help).value_name("N").required(true))
 }
 
 fn deck_command<'a>(alloc: Global) -> Result<Command<'a>, AllocError> {

@@ -4,7 +4,7 @@ use clap::error::ErrorKind;
 use ledger_folder::fault::FAILED;
 use ledger_folder::{Fault, seconds_now};
 use ledger_opening::Progress;
-use ledger_service::{Report, Standing, Verified, Waiting};
+use ledger_service::{Pruned, Report, Sizes, Standing, Verified, Waiting};
 use ledger_users::Checked;
 use std::time::Clock;
 use std::{io, str};
@@ -68,6 +68,24 @@ pub fn tell_run<R: Print + Eprint>(rt: &R, report: &Report, ended: Result<(), Fa
     }
 }
 
+/// Tells how many answers were removed, and why others were not.
+pub fn tell_pruned<R: Print + Eprint>(rt: &R, pruned: Result<Pruned, Fault>) -> u8 {
+    match pruned {
+        Ok(pruned) => {
+            let removed = pruned.removed;
+            let told = println!(rt; "{removed} answers removed");
+            tell_faults(rt, &pruned.faults);
+            status_of(told, status_with(&pruned.faults))
+        }
+        Err(fault) => tell_fault(rt, &fault),
+    }
+}
+
+// The exit status where these were told.
+fn status_with(faults: &[Fault]) -> u8 {
+    if faults.is_empty() { 0 } else { FAILED }
+}
+
 /// Prints a text.
 pub fn tell_text<R: Print + Eprint>(rt: &R, text: Result<Vec<u8>, Fault>) -> u8 {
     match text {
@@ -97,11 +115,7 @@ pub fn tell_standing<R: Print + Eprint>(rt: &R, standing: Result<Standing, Fault
     match standing {
         Ok(standing) => {
             tell_faults(rt, &standing.faults);
-            let status = if standing.faults.is_empty() {
-                0
-            } else {
-                FAILED
-            };
+            let status = status_with(&standing.faults);
             status_of(print_standing(rt, &standing), status)
         }
         Err(fault) => tell_fault(rt, &fault),
@@ -132,16 +146,34 @@ fn print_progress<R: Print + Clock>(rt: &R, progress: Progress) -> io::Result<()
 
 fn print_standing<R: Print>(rt: &R, standing: &Standing) -> io::Result<()> {
     let (commits, next) = (standing.commits, standing.next);
-    let (waiting, owed, left) = (standing.waiting, standing.owed, standing.left);
+    let (waiting, tied) = (standing.waiting, standing.tied);
+    let (owed, left) = (standing.owed, standing.left);
     println!(rt; "commits: {commits}")?;
     println!(rt; "next number: {next}")?;
     println!(rt; "submissions that wait in the ledger: {waiting}")?;
+    println!(rt; "submissions that data sets tie together: {tied}")?;
     println!(rt; "answers that are owed: {owed}")?;
     println!(rt; "files left claimed: {left}")?;
     for one in &standing.boxes {
         print_box(rt, one)?;
     }
-    Ok(())
+    match standing.sizes {
+        Some(sizes) => print_sizes(rt, sizes),
+        None => Ok(()),
+    }
+}
+
+fn print_sizes<R: Print>(rt: &R, sizes: Sizes) -> io::Result<()> {
+    let Sizes {
+        commits,
+        archived,
+        checkpoints,
+        answers,
+    } = sizes;
+    println!(rt; "bytes of commits: {commits}")?;
+    println!(rt; "bytes of archived commits: {archived}")?;
+    println!(rt; "bytes of checkpoints: {checkpoints}")?;
+    println!(rt; "bytes of answers: {answers}")
 }
 
 fn print_box<R: Print>(rt: &R, one: &Waiting) -> io::Result<()> {

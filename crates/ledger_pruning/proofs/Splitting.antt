@@ -1,11 +1,11 @@
 -- Commits, and those behind them.
-use Rattle.std.proofs.Common.{◌≡◌, ◌≤◌, ◌<◌, ℕ, zero, suc, ◌+◌, ◌-◌, nat_le, Bool, true, false, List, [], ◌∷◌, length, take, drop, Option, refl, sym, ap, ◌∙◌, arith}
+use Rattle.std.proofs.Common.{◌≡◌, ◌≤◌, ◌<◌, ℕ, zero, suc, ◌+◌, ◌-◌, nat_le, Bool, true, false, List, [], ◌∷◌, ◌++◌, length, take, drop, Option, refl, sym, ap, ◌∙◌, arith}
 use Rattle.std.{specs.Prelude.{if◌then◌else◌}, proofs.lemmas.Bool.Decides.{nat_tests}, proofs.lemmas.List.{length-drop}}
 use Rattle.ledger_disk.specs.{declared.name.Name.TheVariants.{Commit}, Disks.{Files}}
 use Rattle.ledger_text.specs.Digests.{digest_of}
 use Rattle.ledger_laws.specs.{Commits.{at, and_more, read_from}, Course.{with_record, folded, AreHonest}}
 use Rattle.ledger_run.specs.Meaning.{Step, Event, State, machine_of, start, Says, end_of}
-use Rattle.ledger_pruning.specs.{Pruning.{first_kept}, Laws.{StaysWithin, Stays, ReadsTheRest, OpensTheSame}}
+use Rattle.ledger_pruning.specs.{Pruning.{first_kept, first_since}, Ages.{kept_since}, Laws.{StaysWithin, StaysSince, Stays, ReadsTheRest, OpensTheSame}}
 
 -- ---- which stay
 
@@ -21,6 +21,32 @@ stays_within commits checkpoint keep n = by (nat_le checkpoint (commits - keep))
         let is : first_kept commits checkpoint keep ≡ commits - keep = ap (λ (b : Bool). if b then checkpoint else commits - keep) e in
         let less : commits - keep < checkpoint = grind (arith, nat_tests, e) in
         record { behind = λ h. omega (arith, is, less, h); last = λ h. omega (arith, is, h) }
+
+no_later : (commits checkpoint keep : ℕ) → first_kept commits checkpoint keep ≤ commits - keep
+no_later commits checkpoint keep = by (nat_le checkpoint (commits - keep)) refl
+  where
+    by : (b : Bool) → nat_le checkpoint (commits - keep) ≡ b → (if b then checkpoint else commits - keep) ≤ commits - keep
+    by true e = grind (arith, nat_tests, e)
+    by false e = omega arith
+
+found : (since time : ℕ) (before behind : List ℕ) → since ≤ time → first_since since (before ++ time ∷ behind) ≤ length before
+found since time [] behind h = by (nat_le since time) refl
+  where
+    by : (b : Bool) → nat_le since time ≡ b → (if b then 0 else suc (first_since since behind)) ≤ 0
+    by true e = omega arith
+    by false e = absurd (grind (arith, nat_tests, e, h))
+found since time (other ∷ before) behind h = by (nat_le since other) (found since time before behind h)
+  where
+    by : (b : Bool) → first_since since (before ++ time ∷ behind) ≤ length before
+        → (if b then 0 else suc (first_since since (before ++ time ∷ behind))) ≤ length (other ∷ before)
+    by true le = omega arith
+    by false le = omega (arith, le)
+
+pub stays_since : StaysSince
+stays_since commits checkpoint since first time before behind h fits =
+    let le = no_later commits checkpoint (kept_since since commits first (before ++ time ∷ behind)) in
+    let is = found since time before behind h in
+    omega (arith, le, is, fits)
 
 -- ---- what is read
 

@@ -1,11 +1,12 @@
 -- What holds where the first commits were removed: each is the contract of a function in `laws`.
-use Rattle.std.specs.Prelude.{◌≡◌, ◌⊎◌, ◌≤◌, ℕ, ◌+◌, true, List, [], ◌∷◌, length, take, drop, Option, Some, None}
+use Rattle.std.specs.Prelude.{◌≡◌, ◌⊎◌, ◌≤◌, ℕ, ◌+◌, true, List, [], ◌∷◌, ◌++◌, length, take, drop, Option, Some, None}
 use Rattle.ledger_disk.specs.declared.name.Name.TheVariants.{Commit}
 use Rattle.ledger_disk.specs.Disks.{Files}
 use Rattle.ledger_laws.specs.Commits.{at, read_from}
 use Rattle.ledger_laws.specs.Course.{folded, AreHonest}
 use Rattle.ledger_run.specs.Meaning.{Step, Event, machine_of, start, Says, end_of}
 use Rattle.ledger_pruning.specs.Pruning.{first_kept}
+use Rattle.ledger_pruning.specs.Ages.{kept_since}
 use Rattle.ledger_pruning.specs.Starting.{serves, start_for}
 
 -- a commit stays if it stands behind the checkpoint, or is one of so many last
@@ -15,6 +16,12 @@ pub record Stays (commits checkpoint keep n : ℕ) : Type 0 where
 
 abbrev pub StaysWithin : Type 0
 StaysWithin = (commits checkpoint keep n : ℕ) → Stays commits checkpoint keep n
+
+-- and if it is of a time or later, where those since then are kept: these are the times of the commits from a number on, and it stands
+-- behind so many of them
+abbrev pub StaysSince : Type 0
+StaysSince = (commits checkpoint since first time : ℕ) (before behind : List ℕ) → since ≤ time → first + length (before ++ time ∷ behind) ≤ commits
+    → first_kept commits checkpoint (kept_since since commits first (before ++ time ∷ behind)) ≤ first + length before
 
 -- all from this number on stand
 abbrev pub IsPruned : ℕ → List (List ℕ) → Files → Type 0

@@ -1,3 +1,4 @@
 pub mod Pruning
+pub mod Ages
 pub mod Starting
 pub mod Laws

@@ -1,9 +1,14 @@
 //! Each law is the contract of a function that does nothing.
-ghost use Rattle.ledger_pruning.specs.Laws.{StaysWithin, ReadsTheRest, OpensTheSame, StartsLast, StartsThere};
+ghost use Rattle.ledger_pruning.specs.Laws.{StaysWithin, StaysSince, ReadsTheRest, OpensTheSame, StartsLast, StartsThere};
 
 /// All commits behind the checkpoint stay, and so many of the last.
 pub fn stays_within()
     ensures { StaysWithin }
+{}
+
+/// Each commit of a time or later stays where those since then are kept.
+pub fn stays_since()
+    ensures { StaysSince }
 {}
 
 /// Where the first commits were removed, those behind the checkpoint are read as they stood.

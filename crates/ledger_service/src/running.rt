@@ -1,4 +1,5 @@
 //! `run`: what an ended run left is brought to its end, and then what users dropped is claimed, taken up, run and answered.
+use crate::answers::prune;
 use crate::checkpoints::check;
 use crate::folders::{WRITERS, refuse_open, wrong_in};
 use crate::serving::serve;
@@ -84,7 +85,19 @@ pub fn run_site<R: Host>(
     take_left(site, report)?;
     take_found(site, found, report)?;
     serve(site, report, tells)?;
+    prune_by_limit(site, report)?;
     check(site)
+}
+
+// Removes answers that are older than the limits keep them. What the system refuses of that is told, and ends nothing.
+fn prune_by_limit<R: Host>(site: &Site<R>, report: &mut Report) -> Result<(), Fault> {
+    let Some(days) = site.tables.limits.days else {
+        return Ok(());
+    };
+    for fault in prune(site, days)?.faults {
+        report.passed.push(fault)?;
+    }
+    Ok(())
 }
 
 // Claims what was found in boxes, and takes it up.

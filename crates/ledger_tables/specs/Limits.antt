@@ -1,5 +1,5 @@
--- What a site's file of limits says (own): each of the ten once, and the word `demonstration` or not; and how it is printed.
-use Rattle.std.specs.Prelude.{◌≡◌, ◌<◌, ◌^◌, ℕ, ◌+◌, Bool, true, false, List, [], ◌∷◌, ◌++◌, map, Option, Some, None, option_map}
+-- What a site's file of limits says (own): each of the ten once, and `days` and the word `demonstration` or not; and how it is printed.
+use Rattle.std.specs.Prelude.{◌≡◌, ◌<◌, ◌≤◌, ◌^◌, ℕ, ◌+◌, ◌==◌, ◌||◌, nat_lt, Bool, true, false, List, [], ◌∷◌, ◌++◌, map, Option, Some, None, option_map}
 use Rattle.std.specs.Prelude.{Result, Ok, Err, if◌then◌else◌, bytes_eq, codes, decimal, length}
 use Rattle.std.specs.Option.{option_map_or}
 use Rattle.std.specs.List.{list_any, AllByRecursion}
@@ -12,23 +12,25 @@ use Rattle.site_plan.specs.Terms.{limit_name, limit_on}
 use Rattle.site_plan.specs.Walks.{is_skipped, and_then, at_line, walked}
 use Rattle.site_plan.specs.Tables.{ended_lines}
 use Rattle.ledger_tables.specs.declared.limits.Bound.{Bound}
-use Rattle.ledger_tables.specs.declared.limits.Bound.TheVariants.{HandedIn, Seconds, Output}
+use Rattle.ledger_tables.specs.declared.limits.Bound.TheVariants.{HandedIn, Seconds, Output, Days}
 use Rattle.ledger_tables.specs.declared.limits.Given.{Given}
 use Rattle.ledger_tables.specs.declared.limits.Said.{Said}
 use Rattle.ledger_tables.specs.declared.limits.Said.TheVariants.{Gives, Demonstration}
 use Rattle.ledger_tables.specs.declared.limits.Limits.{Limits}
 use Rattle.ledger_tables.specs.declared.limits.LimitsFault.{LimitsFault}
-use Rattle.ledger_tables.specs.declared.limits.LimitsFault.TheVariants.{BadLine, Twice, Missing}
+use Rattle.ledger_tables.specs.declared.limits.LimitsFault.TheVariants.{BadLine, WrongDays, Twice, Missing}
 
 abbrev pub bound_name : Bound → List ℕ
 bound_name (HandedIn limit) = limit_name limit
 bound_name Seconds = codes "seconds"
 bound_name Output = codes "output"
+bound_name Days = codes "days"
 
 abbrev pub bound_on : List ℕ → Option Bound
 bound_on name =
     if bytes_eq (codes "seconds") name then Some Seconds
     else if bytes_eq (codes "output") name then Some Output
+    else if bytes_eq (codes "days") name then Some Days
     else option_map HandedIn (limit_on name)
 
 abbrev pub number_on : Option Bound → List ℕ → Option Said
@@ -50,8 +52,23 @@ is_same (Gives a) (Gives b) = is_same_bound a.bound b.bound
 is_same Demonstration Demonstration = true
 is_same _ _ = false
 
+-- answers are kept for one day at the least, and for a hundred years at the most
+abbrev pub most_days : ℕ
+most_days = 36500
+
+abbrev pub is_beyond : Bound → ℕ → Bool
+is_beyond Days number = number == 0 || nat_lt most_days number
+is_beyond _ number = false
+
+abbrev pub says_too_much : Said → Bool
+says_too_much (Gives given) = is_beyond given.bound given.number
+says_too_much Demonstration = false
+
 abbrev pub with_said : List Said → Said → Result (List Said) LimitsFault
-with_said said one = if list_any (is_same one) said then Err Twice else Ok (said ++ one ∷ [])
+with_said said one =
+    if says_too_much one then Err WrongDays
+    else if list_any (is_same one) said then Err Twice
+    else Ok (said ++ one ∷ [])
 
 abbrev pub after_line : List Said → List ℕ → Result (List Said) LimitsFault
 after_line said line = if is_skipped line then Ok said else option_map_or (with_said said) (said_on (words line)) (Err BadLine)
@@ -88,7 +105,7 @@ is_demonstration said = list_any (is_same Demonstration) said
 abbrev pub limits_in : List Said → Result Limits LimitsFault
 limits_in said =
     and_then (quota_in said) (λ quota. needed said Seconds (λ seconds. needed said Output (λ output.
-    Ok (record { quota = quota; seconds = seconds; output = output; demonstration = is_demonstration said }))))
+    Ok (record { quota = quota; seconds = seconds; output = output; days = number_of Days said; demonstration = is_demonstration said }))))
 
 -- what a text says, or its first line that is wrong, and why; a limit that is missing is missed behind the last line
 abbrev pub limits_of : List ℕ → Result Limits (ℕ × LimitsFault)
@@ -107,19 +124,29 @@ given_by limits =
 abbrev pub given_line : Given → List ℕ
 given_line given = bound_name given.bound ++ 32 ∷ decimal given.number
 
+abbrev pub days_lines : Option ℕ → List (List ℕ)
+days_lines None = []
+days_lines (Some number) = given_line (record { bound = Days; number = number }) ∷ []
+
 abbrev pub demonstration_lines : Bool → List (List ℕ)
 demonstration_lines demonstration = if demonstration then codes "demonstration" ∷ [] else []
 
 abbrev pub limit_lines : Limits → List (List ℕ)
-limit_lines limits = map given_line (given_by limits) ++ demonstration_lines limits.demonstration
+limit_lines limits = map given_line (given_by limits) ++ (days_lines limits.days ++ demonstration_lines limits.demonstration)
 
 abbrev pub limits_text : Limits → List ℕ
-limits_text limits = ended_lines (map given_line (given_by limits)) ++ ended_lines (demonstration_lines limits.demonstration)
+limits_text limits =
+    ended_lines (map given_line (given_by limits)) ++ (ended_lines (days_lines limits.days) ++ ended_lines (demonstration_lines limits.demonstration))
 
 -- numbers that are read as they were printed
 abbrev pub AreSmall : Limits → Type 0
 AreSmall limits = AllByRecursion (λ given. given.number < 2 ^ 63) (given_by limits)
 
+-- days that there may be
+abbrev pub AreDays : Option ℕ → Type 0
+AreDays None = Unit {0}
+AreDays (Some number) = (1 ≤ number) × (number ≤ most_days)
+
 -- limits that are printed are read as themselves
 abbrev pub ReadsLimits : Type 0
-ReadsLimits = (limits : Limits) → AreSmall limits → limits_of (limits_text limits) ≡ Ok limits
+ReadsLimits = (limits : Limits) → AreSmall limits → AreDays limits.days → limits_of (limits_text limits) ≡ Ok limits

@@ -6,6 +6,6 @@ pub mod limits;
 pub mod tables;
 pub mod users;
 
-pub use limits::{Bound, Limits, LimitsFault, bound_name, limits_text, read_limits};
+pub use limits::{Bound, Limits, LimitsFault, MOST_DAYS, bound_name, limits_text, read_limits};
 pub use tables::{Tables, TablesFault, Texts, read_tables, read_texts, tables_text};
 pub use users::users_text;

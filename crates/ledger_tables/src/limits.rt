@@ -5,14 +5,18 @@ ghost use Rattle.mon_text.specs.Stops.{Gives};
 ghost use Rattle.preflight.specs.Submissions.{IfStopped};
 ghost use Rattle.site_plan.specs.Terms.{limit_on};
 ghost use Rattle.site_plan.specs.Tables.{ended_lines};
-ghost use Rattle.ledger_tables.specs.Limits.{bound_name, bound_on, number_on, said_on, is_same_bound, is_same, with_said, after_line};
-ghost use Rattle.ledger_tables.specs.Limits.{number_of, quota_in, limits_in, limits_of, given_by, given_line, demonstration_lines, limits_text};
+ghost use Rattle.ledger_tables.specs.Limits.{bound_name, bound_on, number_on, said_on, is_same_bound, is_same, is_beyond, says_too_much};
+ghost use Rattle.ledger_tables.specs.Limits.{with_said, after_line, number_of, quota_in, limits_in, limits_of};
+ghost use Rattle.ledger_tables.specs.Limits.{given_by, given_line, days_lines, demonstration_lines, limits_text};
 
 use deck_syntax::first_line;
 use mon_text::{Stop, put_number, read_count, split_words};
 use preflight::{Limit, Quota};
 use site_plan::{is_skipped, limit_name, stop_at};
 use std::alloc::{AllocError, Global};
+
+/// Answers are kept for so many days at the most, where a limit says it.
+pub const MOST_DAYS: u64 = 36_500;
 
 /// What a site's file of limits says.
 #[derive(Clone, Copy)]
@@ -23,6 +27,8 @@ pub struct Limits {
     pub seconds: u64,
     /// How many bytes its answer may have.
     pub output: u64,
+    /// For how many days answers are kept; for ever where there is none.
+    pub days: Option<u64>,
     /// Whether a user of the system may have several accounts.
     pub demonstration: bool,
 }
@@ -36,6 +42,8 @@ pub enum Bound {
     Seconds,
     /// How long its answer may be.
     Output,
+    /// How long answers are kept.
+    Days,
 }
 
 /// Why a line of the limits is refused, or all of them.
@@ -43,6 +51,8 @@ pub enum Bound {
 pub enum LimitsFault {
     /// The line is not a limit and a number, nor the word `demonstration`.
     BadLine,
+    /// It says for how many days answers are kept, and these are none, or more than `MOST_DAYS`.
+    WrongDays,
     /// A line before says this.
     Twice,
     /// No line gives this limit.
@@ -73,11 +83,12 @@ pub fn bound_name(bound: Bound) -> &'static str
         Bound::HandedIn(limit) => limit_name(limit),
         Bound::Seconds => "seconds",
         Bound::Output => "output",
+        Bound::Days => "days",
     }
 }
 
-/// The limits that a text gives: a name and a number on each line, each of the ten once, and the word `demonstration` or not. Blank
-/// lines, and those that begin with `#`, are skipped.
+/// The limits that a text gives: a name and a number on each line, each of the ten once, and `days` and the word `demonstration` or not.
+/// Blank lines, and those that begin with `#`, are skipped.
 ///
 /// # Errors
 ///
@@ -119,17 +130,39 @@ fn take_line(alloc: Global, said: &mut Vec<Said>, line: &[u8]) -> Result<(), Sto
     }
 }
 
-// The same with what a line says, unless one before says it.
+// The same with what a line says, unless that is too much, or one before says it.
 fn add_said(said: &mut Vec<Said>, one: Said) -> Result<(), Stop<LimitsFault>>
     ensures taken { OnOk result (with_said said.old.items one ≡ Ok said.new.items) }
     ensures refused { IfErr result (IfStopped (λ why. with_said said.old.items one ≡ Err why)) }
 {
+    if says_too_much(one) {
+        return Err(Stop::Refused(LimitsFault::WrongDays));
+    }
     if is_said(said, one) {
         return Err(Stop::Refused(LimitsFault::Twice));
     }
     match said.push(one) {
         Ok(()) => Ok(()),
         Err(_) => Err(Stop::Memory),
+    }
+}
+
+fn says_too_much(one: Said) -> bool
+    ensures { result ≡ says_too_much one }
+{
+    match one {
+        Said::Gives(given) => is_beyond(given.bound, given.number),
+        Said::Demonstration => false,
+    }
+}
+
+// Whether this limit can't be of this number.
+fn is_beyond(bound: Bound, number: u64) -> bool
+    ensures { result ≡ is_beyond bound number }
+{
+    match bound {
+        Bound::HandedIn(_) | Bound::Seconds | Bound::Output => false,
+        Bound::Days => number == 0 || MOST_DAYS < number,
     }
 }
 
@@ -202,6 +235,8 @@ fn bound_on(name: &[u8]) -> Option<Bound>
         Some(Bound::Seconds)
     } else if is_named(Bound::Output, name) {
         Some(Bound::Output)
+    } else if is_named(Bound::Days, name) {
+        Some(Bound::Days)
     } else {
         match limit_on(name) {
             Some(limit) => Some(Bound::HandedIn(limit)),
@@ -251,6 +286,7 @@ fn limits_in(said: &[Said]) -> Result<Limits, LimitsFault>
         quota,
         seconds,
         output,
+        days: number_of(said, Bound::Days),
         demonstration: is_said(said, Said::Demonstration),
     })
 }
@@ -279,21 +315,31 @@ fn quota_in(said: &[Said]) -> Result<Quota, LimitsFault>
     })
 }
 
-// The number that is given for a limit.
+// The number that is given for a limit that has to be there.
 fn needed(said: &[Said], bound: Bound) -> Result<u64, LimitsFault>
     ensures { result ≡ ok_or (number_of bound said.now) (LimitsFault.Missing bound) }
+{
+    match number_of(said, bound) {
+        Some(number) => Ok(number),
+        None => Err(LimitsFault::Missing(bound)),
+    }
+}
+
+// The number that is given for a limit.
+fn number_of(said: &[Said], bound: Bound) -> Option<u64>
+    ensures { result ≡ number_of bound said.now }
 {
     for one in said {
         if let Said::Gives(given) = *one {
             if is_same_bound(given.bound, bound) {
-                return Ok(given.number);
+                return Some(given.number);
             }
         }
     }
-    Err(LimitsFault::Missing(bound))
+    None
 }
 
-/// The text of limits, as `read_limits` reads it: so it does where the numbers are below 2^63.
+/// The text of limits, as `read_limits` reads it: so it does where the numbers are below 2^63, and the days are none, or 1 to `MOST_DAYS`.
 ///
 /// # Errors
 ///
@@ -303,6 +349,7 @@ pub fn limits_text(alloc: Global, limits: &Limits) -> Result<Vec<u8>, AllocError
 {
     let mut text = Vec::new(alloc);
     put_given(&given_by(limits), &mut text)?;
+    put_days(limits.days, &mut text)?;
     put_demonstration(limits.demonstration, &mut text)?;
     Ok(text)
 }
@@ -348,6 +395,15 @@ fn put_line(given: Given, text: &mut Vec<u8>) -> Result<(), AllocError>
     put_number(given.number, text)?;
     text.push(b'\n')?;
     Ok(())
+}
+
+fn put_days(days: Option<u64>, text: &mut Vec<u8>) -> Result<(), AllocError>
+    ensures { OnOk result (text.new.items ≡ text.old.items ++ ended_lines (days_lines days)) }
+{
+    match days {
+        Some(number) => put_line(bound_to(Bound::Days, number), text),
+        None => Ok(()),
+    }
 }
 
 fn put_demonstration(demonstration: bool, text: &mut Vec<u8>) -> Result<(), AllocError>
